@@ -1,0 +1,5 @@
+pub mod ChunkedLaws
+pub mod FixedLaws
+pub mod Laying
+pub mod Spelling
+pub mod Words

@@ -1,0 +1,4 @@
+pub mod Chunked
+pub mod Fixed
+pub mod Reader
+pub mod Refusal
