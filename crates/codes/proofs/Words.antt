@@ -6,7 +6,7 @@ use Prim.Native.Nat.{ℕ, min, _+_, _-_, _*_, _^_, _≤_, _<_}
 use native.Mathlib.Omega.{arith}
 use lib.Dec.{leb}
 use lib.ListN.{length, getD, take, drop, length-take, length-drop}
-use lib.Seq.{drop-drop, getD-drop, getD-take, length-take-le}
+use lib.Seq.{drop-drop, getD-drop, length-take-le}
 use Rattle.std.proofs.shelf.Lists.{take-more}
 use Rattle.std.proofs.shelf.Tests.{cond-true, cond-false, le-leb, lt-leb, leb-true, leb-false}
 use Rattle.std.specs.declared.result.Result.{Result}
@@ -15,7 +15,7 @@ use Rattle.std.specs.declared.result.Result.the-variants.{Ok, Err}
 use Rattle.codes.specs.declared.reader.BitReader.{BitReader}
 use Rattle.codes.specs.Reader.{bitsLeft, wordTaken, moved}
 use Rattle.rules.specs.Bits.{bit, valueOf, bitsOf, bitsIn}
-use Rattle.rules.proofs.Bits.{valueOf-push, valueOf-take-below}
+use Rattle.rules.proofs.Bits.{getD-bitsIn, valueOf-push, valueOf-take-below}
 
 ok-same : (x y : ℕ) → _≡_ {A = Result ℕ BytesEnd} (Ok x) (Ok y) → x ≡ y
 ok-same x y e = cc
@@ -31,8 +31,7 @@ pub word-more : (bytes : List ℕ) (place i : ℕ) (b : Bool) → i < length (dr
     → valueOf (take (i + 1) (drop place (bitsIn bytes))) ≡ valueOf (take i (drop place (bitsIn bytes))) + bit b * 2 ^ i
 word-more bytes place i b h e =
     let left = drop place (bitsIn bytes) in
-    let long : place + i < 2 ^ 64 - 1 = omega (arith, length-take (2 ^ 64 - 1) (bitsOf bytes), length-drop place (bitsIn bytes)) in
-    let is : getD left i false ≡ b = getD-drop place (bitsIn bytes) i false ∙ getD-take (2 ^ 64 - 1) (bitsOf bytes) (place + i) false long ∙ sym e in
+    let is : getD left i false ≡ b = getD-drop place (bitsIn bytes) i false ∙ getD-bitsIn bytes (place + i) (omega (arith, length-drop place (bitsIn bytes))) ∙ sym e in
     ap valueOf (take-more left i false h) ∙ valueOf-push (take i left) (getD left i false)
     ∙ ap (λ x. valueOf (take i left) + bit x * 2 ^ length (take i left)) is ∙ ap (λ n. valueOf (take i left) + bit b * 2 ^ n) (length-take-le i left (omega arith))
 

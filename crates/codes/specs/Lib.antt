@@ -1,4 +1,6 @@
 pub mod Chunked
+pub mod Examples
 pub mod Fixed
 pub mod Reader
 pub mod Refusal
+pub mod Series

@@ -11,7 +11,7 @@ use lib.Bits.{bitXor, block-half, block-odd, xor-shr, xor-mod, xor-zero-r, diffe
 use lib.Dec.{eqb}
 use lib.ListN.{length, getD, set, take, drop, length-append, length-take, length-drop, length-set, take-append-drop}
 use lib.Pow.{mod-pow-add, pow-pos, pow-add, shr-shr}
-use lib.Seq.{length-take-le, take-all, drop-append-add, take-append-add, getD-append-add, set-append-left, set-split, drop-cons, take-suc, take-append-seam, drop-append-seam}
+use lib.Seq.{length-take-le, getD-take, take-take, take-at, take-all, drop-append-add, take-append-add, getD-append-add, set-append-left, set-split, drop-cons, take-suc, take-append-seam, drop-append-seam}
 use Rattle.std.proofs.shelf.Lists.{getD-append-left, set-append-right, take-more-set, drop-set-lt}
 use Rattle.std.proofs.shelf.Tests.{eqb-true, eqb-false, eq-eqb, ne-eqb, cases-lt}
 use Rattle.std.specs.shelf.Lists.{All}
@@ -99,6 +99,7 @@ length-bitsOf [] = refl
 length-bitsOf (b ∷ bs) = omega (arith, length-bitsOf bs)
 
 pub length-bitsIn : (bs : List ℕ) → length (bitsIn bs) ≡ min (length bs * 8) (2 ^ 64 - 1)
+unfolding bitsIn
 length-bitsIn bs = length-take (2 ^ 64 - 1) (bitsOf bs) ∙ omega (arith, length-bitsOf bs)
 
 pub bitsOf-append : (xs ys : List ℕ) → bitsOf (xs ++ ys) ≡ bitsOf xs ++ bitsOf ys
@@ -109,6 +110,15 @@ pub bytesOf-bitsOf : (bs : List ℕ) → All (λ b. b < 256) bs → bytesOf (len
 bytesOf-bitsOf [] h = refl
 bytesOf-bitsOf (b ∷ bs) h =
     ap₂ (λ (x : ℕ) (xs : List ℕ). x ∷ xs) (valueOf-lowBits 8 b ∙ omega (arith, h .0)) (bytesOf-bitsOf bs (h .1))
+
+pub bitsOf-bytesOf : (k : ℕ) (bits : List Bool) → length bits ≡ 8 * k → bitsOf (bytesOf k bits) ≡ bits
+bitsOf-bytesOf zero [] h = refl
+bitsOf-bytesOf zero (b ∷ bits) h = absurd (omega arith)
+bitsOf-bytesOf (suc k) bits h =
+    let eight : length (take 8 bits) ≡ 8 = length-take-le 8 bits (omega arith) in
+    let first : lowBits 8 (valueOf (take 8 bits)) ≡ take 8 bits = ap (λ n. lowBits n (valueOf (take 8 bits))) (sym eight) ∙ lowBits-valueOf (take 8 bits) in
+    let rest : bitsOf (bytesOf k (drop 8 bits)) ≡ drop 8 bits = bitsOf-bytesOf k (drop 8 bits) (omega (arith, length-drop 8 bits)) in
+    ap₂ _++_ first rest ∙ take-append-drop 8 bits
 
 -- the bit r of the byte q
 bitAt : (bs : List ℕ) (q r : ℕ) → q < length bs → r < 8 → getD (bitsOf bs) (8 * q + r) false ≡ isOdd (getD bs q 0 / 2 ^ r)
@@ -157,3 +167,16 @@ valueOf-push (x ∷ bs) b = omega (arith, valueOf-push bs b, ap (λ n. bit b * n
 
 pub valueOf-take-below : (i : ℕ) (bs : List Bool) → i ≤ length bs → valueOf (take i bs) < 2 ^ i
 valueOf-take-below i bs h = subst (λ (n : ℕ). valueOf (take i bs) < 2 ^ n) (length-take-le i bs h) (valueOf-below (take i bs))
+
+pub take-bitsIn : (k : ℕ) (bytes : List ℕ) → k ≤ length (bitsIn bytes) → take k (bitsIn bytes) ≡ take k (bitsOf bytes)
+unfolding bitsIn
+take-bitsIn k bytes h = take-take k (2 ^ 64 - 1) (bitsOf bytes) (omega (arith, length-take (2 ^ 64 - 1) (bitsOf bytes)))
+
+pub getD-bitsIn : (bytes : List ℕ) (p : ℕ) → p < length (bitsIn bytes) → getD (bitsIn bytes) p false ≡ getD (bitsOf bytes) p false
+unfolding bitsIn
+getD-bitsIn bytes p h = getD-take (2 ^ 64 - 1) (bitsOf bytes) p false (omega (arith, length-take (2 ^ 64 - 1) (bitsOf bytes)))
+
+pub take-overlay : (p : ℕ) (new old : List Bool) → p ≤ length old → take (p + length new) (overlay p new old) ≡ take p old ++ new
+take-overlay p new old h =
+    let front : length (take p old ++ new) ≡ p + length new = length-append (take p old) new ∙ ap (λ n. n + length new) (length-take-le p old h) in
+    ap (take (p + length new)) (sym (append-assoc (take p old) new (drop (p + length new) old))) ∙ take-at (take p old ++ new) (drop (p + length new) old) (p + length new) front

@@ -36,5 +36,5 @@ abbrev pub overlay : ℕ → List Bool → List Bool → List Bool
 overlay place new old = take place old ++ (new ++ drop (place + length new) old)
 
 -- The bits of a buffer that have a place after them: a place is a machine word. No real buffer has as many.
-abbrev pub bitsIn : List ℕ → List Bool
+unfoldable pub bitsIn : List ℕ → List Bool
 bitsIn bytes = take (2 ^ 64 - 1) (bitsOf bytes)
