@@ -9,6 +9,9 @@ pub mod refusal;
 pub mod series;
 pub mod writer;
 
+#[cfg(test)]
+mod tests;
+
 // How many worked examples of the chunked code are proved.
 pub fn examples_hold() -> usize
     ensures examples { λ _. ⌜ Worked-examples ⌝ }

@@ -2,6 +2,9 @@
 mod report;
 mod request;
 
+#[cfg(test)]
+mod tests;
+
 use codes::chunked::Chunked;
 use codes::chunked::ChunkedCode;
 use codes::fixed::Fixed;
