@@ -376,8 +376,8 @@ begins first later lf ll bs n used e =
 
 pub chunked-sound : (first later : ℕ) → 1 ≤ first → first ≤ 6 → 1 ≤ later → later ≤ 6 → Sound (chunkedMeaning first later)
 chunked-sound first later lf mf ll ml = record {
-  some = omega arith;
-  word = omega arith;
+  least = omega arith;
+  most = omega arith;
   three = refl;
   bytes = (omega arith, (omega arith, (omega arith, tt)));
   short = λ n h. short 31 later first n lf (omega arith) ll (omega arith) h;

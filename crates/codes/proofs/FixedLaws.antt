@@ -47,9 +47,9 @@ begins w bs n used e = go (leb w (length bs)) refl
         }
 
 pub fixed-sound : (w : ℕ) → 4 ≤ w → w ≤ 32 → Sound (fixedMeaning w)
-fixed-sound w least most = record {
-  some = omega (arith, pow-mono {i = 4} {j = w} least);
-  word = omega (arith, pow-mono {i = w} {j = 32} most);
+fixed-sound w lw mw = record {
+  least = omega (arith, pow-mono {i = 4} {j = w} lw);
+  most = omega (arith, pow-mono {i = w} {j = 32} mw);
   three = refl;
   bytes = (omega arith, (omega arith, (omega arith, tt)));
   short = λ n _. omega (arith, length-lowBits w n);

@@ -18,15 +18,17 @@ abbrev pub told : Meaning → Asked → Told
 told m (bitsFor n) = spelt (m .bits n)
 told m (readingOf bs) = read (m .reading bs)
 
--- 3 is 11 0, and 7 is 11 1 10 0; 11 1 00 0 is bad; 11 1 0 and the empty list are cut
-abbrev pub Worked-examples : Type 0
-Worked-examples = map (told (chunkedMeaning 2 2))
-    ( bitsFor 3
+abbrev pub examples : List Asked
+examples = bitsFor 3
     ∷ bitsFor 7
     ∷ readingOf (true ∷ true ∷ true ∷ false ∷ false ∷ false ∷ [])
     ∷ readingOf (true ∷ true ∷ true ∷ false ∷ [])
     ∷ readingOf []
-    ∷ [])
+    ∷ []
+
+-- 3 is 11 0, and 7 is 11 1 10 0; 11 1 00 0 is bad; 11 1 0 and the empty list are cut
+abbrev pub Worked-examples : Type 0
+Worked-examples = map (told (chunkedMeaning 2 2)) examples
   ≡ ( spelt (true ∷ true ∷ false ∷ [])
     ∷ spelt (true ∷ true ∷ true ∷ true ∷ false ∷ false ∷ [])
     ∷ read bad

@@ -15,12 +15,12 @@ bitsLeft r = drop (r .place) (bitsIn (r .bytes .now))
 
 -- the next bits as a number, or the bytes' end, of a reading that began at a place
 abbrev pub wordTaken : ℕ → ℕ → List Bool → Result ℕ BytesEnd
-wordTaken from count bits = cond (leb count (length bits)) (Ok (valueOf (take count bits))) (Err (record { from = from }))
+wordTaken from width bits = cond (leb width (length bits)) (Ok (valueOf (take width bits))) (Err (record { from = from }))
 
 -- the reader past the bits that it took, or as it was
 abbrev pub moved : BitReader → ℕ → BitReader
-moved r count = record {
+moved r width = record {
   bytes = r .bytes;
   from = r .from;
-  place = cond (leb count (length (bitsLeft r))) (r .place + count) (r .place);
+  place = cond (leb width (length (bitsLeft r))) (r .place + width) (r .place);
 }

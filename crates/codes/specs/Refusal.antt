@@ -1,5 +1,5 @@
 -- The refusals of making a code.
-use mathlib.Core.Bool.{Bool, cond, _&&_}
+use mathlib.Core.Bool.{Bool, _&&_}
 use Prim.Native.Nat.{ℕ}
 use lib.Dec.{leb}
 use Rattle.codes.specs.declared.refusal.MakeRefusal.{MakeRefusal}

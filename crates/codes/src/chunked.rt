@@ -46,23 +46,23 @@ fn in_range(length: u32) -> bool
 #[derive(Clone, Copy)]
 struct Spelled {
     word: u64,
-    count: u32,
+    size: u32,
 }
 
 impl Spelled {
     // These bits, and then the lowest `width` of others.
     fn then(self, bits: u64, width: u32) -> Spelled
-        requires below { ⌜ self .word < 2 ^ self .count ⌝ }
+        requires below { ⌜ self .word < 2 ^ self .size ⌝ }
         requires some { ⌜ 0 < width ⌝ }
         requires small { ⌜ bits < 2 ^ width ⌝ }
-        requires fits { ⌜ self .count + width ≤ 64 ⌝ }
-        ensures below { λ r. ⌜ r .word < 2 ^ (r .count) ⌝ }
-        ensures count { λ r. ⌜ r .count ≡ self .count + width ⌝ }
-        ensures bits { λ r. ⌜ lowBits (r .count) (r .word) ≡ lowBits (self .count) (self .word) ++ lowBits width bits ⌝ }
+        requires fits { ⌜ self .size + width ≤ 64 ⌝ }
+        ensures below { λ r. ⌜ r .word < 2 ^ (r .size) ⌝ }
+        ensures size { λ r. ⌜ r .size ≡ self .size + width ⌝ }
+        ensures bits { λ r. ⌜ lowBits (r .size) (r .word) ≡ lowBits (self .size) (self .word) ++ lowBits width bits ⌝ }
     {
         Spelled {
-            word: self.word + (bits << self.count),
-            count: self.count + width,
+            word: self.word + (bits << self.size),
+            size: self.size + width,
         }
     }
 }
@@ -90,9 +90,9 @@ fn group_in(word: u64, width: u32) -> u64
 
 impl Chunked {
     fn spell(&self, number: u32) -> Spelled
-        ensures { λ r. ⌜ lowBits (r .count) (r .word) ≡ groups 32 (now (self .entry) .later) (now (self .entry) .first) number ⌝ }
+        ensures { λ r. ⌜ lowBits (r .size) (r .word) ≡ groups 32 (now (self .entry) .later) (now (self .entry) .first) number ⌝ }
     {
-        let mut spelled = Spelled { word: 0, count: 0 };
+        let mut spelled = Spelled { word: 0, size: 0 };
         let mut rest = u64::from(number);
         let mut width = self.first;
         for turn in 0..32u32 {
@@ -123,7 +123,7 @@ pub impl CountCode for Chunked as ChunkedCode {
             return Err(WriteRefusal::AboveTop);
         }
         let spelled = self.spell(number as u32);
-        write_bits(spelled.word, spelled.count, place, buffer)
+        write_bits(spelled.word, spelled.size, place, buffer)
     }
 
     fn read(&self, place: usize, bytes: &[u8]) -> Result<Counted, CountFault> {

@@ -1,6 +1,7 @@
 // Count codes over byte slices, with the bit reader and the bit writer that they are made of.
 ghost use mathlib.Core.Path.{_≡_};
-ghost use Rattle.codes.specs.Examples.{Worked-examples};
+ghost use lib.ListN.{length};
+ghost use Rattle.codes.specs.Examples.{examples, Worked-examples};
 
 pub mod chunked;
 pub mod fixed;
@@ -13,9 +14,9 @@ pub mod writer;
 mod tests;
 
 // How many worked examples of the chunked code are proved.
-pub fn examples_hold() -> usize
-    ensures examples { λ _. ⌜ Worked-examples ⌝ }
-    ensures count { λ r. ⌜ r ≡ 5 ⌝ }
+pub fn worked_examples() -> usize
+    ensures hold { λ _. ⌜ Worked-examples ⌝ }
+    ensures many { λ r. ⌜ r ≡ length examples ⌝ }
 {
     5
 }

@@ -28,18 +28,18 @@ impl<'a> BitReader<'a> {
         self.place
     }
 
-    // The next `count` bits as a number, lowest first; a word has 64, so no more are taken at once.
+    // The next `width` bits as a number, lowest first; a word has 64, so no more are taken at once.
     // Where fewer are left, the fault tells where the reader began, and the reader stays.
-    pub fn take(&mut self, count: u32) -> Result<u64, BytesEnd>
-        ensures answer { λ r. ⌜ r ≡ wordTaken (now (self .entry) .from) (min count 64) (bitsLeft (now (self .entry))) ⌝ }
-        ensures after { λ _. ⌜ now (self .exit) ≡ moved (now (self .entry)) (min count 64) ⌝ }
+    pub fn take(&mut self, width: u32) -> Result<u64, BytesEnd>
+        ensures answer { λ r. ⌜ r ≡ wordTaken (now (self .entry) .from) (min width 64) (bitsLeft (now (self .entry))) ⌝ }
+        ensures after { λ _. ⌜ now (self .exit) ≡ moved (now (self .entry)) (min width 64) ⌝ }
     {
-        let count = count.min(64) as usize;
-        if bit_len(self.bytes).saturating_sub(self.place) < count {
+        let width = width.min(64) as usize;
+        if bit_len(self.bytes).saturating_sub(self.place) < width {
             return Err(BytesEnd { from: self.from });
         }
-        let word = word_at(self.bytes, self.place, count);
-        self.place += count;
+        let word = word_at(self.bytes, self.place, width);
+        self.place += width;
         Ok(word)
     }
 }
@@ -58,13 +58,13 @@ fn bit_at(bytes: &[u8], place: usize) -> bool
     (bytes[place / 8] >> (place % 8)) % 2 == 1
 }
 
-fn word_at(bytes: &[u8], place: usize, count: usize) -> u64
-    requires within { ⌜ count ≤ length (drop place (bitsIn (now bytes))) ⌝ }
-    requires fits { ⌜ count ≤ 64 ⌝ }
-    ensures { λ r. ⌜ r ≡ valueOf (take count (drop place (bitsIn (now (bytes .entry))))) ⌝ }
+fn word_at(bytes: &[u8], place: usize, width: usize) -> u64
+    requires within { ⌜ width ≤ length (drop place (bitsIn (now bytes))) ⌝ }
+    requires fits { ⌜ width ≤ 64 ⌝ }
+    ensures { λ r. ⌜ r ≡ valueOf (take width (drop place (bitsIn (now (bytes .entry))))) ⌝ }
 {
     let mut word: u64 = 0;
-    for i in 0..count {
+    for i in 0..width {
         if bit_at(bytes, place + i) {
             word += 1 << i;
         }

@@ -4,7 +4,7 @@ ghost use Rattle.codes.specs.Series.{seriesFrom, seriesBytes, ReadBack};
 use rules::count::CountCode;
 use rules::count::WriteRefusal;
 
-// How many counts of a series were written, the place after them, and what refused the next.
+// How many counts of a series were written, the place after them, and why the next was refused, if one was.
 #[derive(Clone, Copy)]
 pub struct Series {
     pub written: usize,

@@ -6,25 +6,25 @@ ghost use Rattle.rules.specs.Calls.{room, laid};
 use crate::reader::bit_len;
 use rules::count::WriteRefusal;
 
-// Lays the lowest `count` bits of `word` over the buffer's from the place on, and answers the place after them.
-pub fn write_bits(word: u64, count: u32, place: usize, buffer: &mut [u8]) -> Result<usize, WriteRefusal>
-    ensures answer { λ r. ⌜ r ≡ room place count (now (buffer .entry)) ⌝ }
-    ensures bytes { λ _. ⌜ now (buffer .exit) ≡ laid place (lowBits count word) (now (buffer .entry)) ⌝ }
+// Lays the lowest `width` bits of `word` over the buffer's from the place on, and answers the place after them.
+pub fn write_bits(word: u64, width: u32, place: usize, buffer: &mut [u8]) -> Result<usize, WriteRefusal>
+    ensures answer { λ r. ⌜ r ≡ room place width (now (buffer .entry)) ⌝ }
+    ensures bytes { λ _. ⌜ now (buffer .exit) ≡ laid place (lowBits width word) (now (buffer .entry)) ⌝ }
 {
     holds_bytes(buffer);
     let end = bit_len(buffer);
-    if place > end || end - place < count as usize {
+    if place > end || end - place < width as usize {
         return Err(WriteRefusal::NoRoom);
     }
     let mut rest = word;
-    for i in 0..count {
+    for i in 0..width {
         set_bit(buffer, place + i as usize, rest % 2 == 1);
         rest /= 2;
     }
-    Ok(place + count as usize)
+    Ok(place + width as usize)
 }
 
-// Does nothing: it says of a slice what the proof of its caller needs.
+// Does nothing at run time: it tells the caller's proof that a slice's elements are bytes.
 fn holds_bytes(bytes: &[u8])
     ensures { λ _. ⌜ ((k : ℕ) → getD (now (bytes .entry)) k 0 < 256) ⌝ }
 {

@@ -7,7 +7,6 @@ use lib.ListN.{length, drop}
 use Rattle.std.specs.Results.{isOk}
 use Rattle.std.specs.declared.result.Result.{Result}
 use Rattle.std.specs.declared.result.Result.the-variants.{Ok, Err}
-use Rattle.rules.specs.declared.count.BytesEnd.{BytesEnd}
 use Rattle.rules.specs.declared.count.CountFault.{CountFault}
 use Rattle.rules.specs.declared.count.CountFault.the-variants.{Cut, Bad}
 use Rattle.rules.specs.declared.count.Counted.{Counted}
@@ -16,13 +15,13 @@ use Rattle.rules.specs.declared.count.WriteRefusal.the-variants.{AboveTop, NoR
 use Rattle.rules.specs.Bits.{bitsOf, bytesOf, bitsIn, overlay}
 use Rattle.rules.specs.Meaning.{Meaning, Reading, number, cut, bad}
 
-abbrev pub refusalNumber : WriteRefusal → ℕ
-refusalNumber AboveTop = 6
-refusalNumber NoRoom = 7
+abbrev pub writingNumber : WriteRefusal → ℕ
+writingNumber AboveTop = 6
+writingNumber NoRoom = 7
 
--- so many bits from the place on, in these bytes: the place after them, or no room
+-- room for so many bits from the place on: the place after them
 abbrev pub room : ℕ → ℕ → List ℕ → Result ℕ WriteRefusal
-room place count bytes = cond (leb (place + count) (length (bitsIn bytes))) (Ok (place + count)) (Err NoRoom)
+room place width bytes = cond (leb (place + width) (length (bitsIn bytes))) (Ok (place + width)) (Err NoRoom)
 
 -- the bytes with new over their bits from the place on, or as they were if there is no room
 abbrev pub laid : ℕ → List Bool → List ℕ → List ℕ

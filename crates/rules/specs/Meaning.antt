@@ -26,8 +26,8 @@ pub record Begins (m : Meaning) (bs : List Bool) (n used : ℕ) : Type 0 where
   pub split : bs ≡ m .bits n ++ rest
 
 pub record Sound (m : Meaning) : Type 0 where
-  pub some : 1 ≤ m .top
-  pub word : m .top ≤ 4294967295
+  pub least : 1 ≤ m .top
+  pub most : m .top ≤ 4294967295
   pub three : length (m .name) ≡ 3
   pub bytes : All (λ b. b < 256) (m .name)
   pub short : (n : ℕ) → n ≤ m .top → length (m .bits n) ≤ 64

@@ -1,9 +1,9 @@
 ghost use mathlib.Core.Path.{_≡_};
 ghost use Rattle.rules.specs.Meaning.{Meaning, Sound};
-ghost use Rattle.rules.specs.Calls.{refusalNumber, writeAnswer, bytesWritten, readAnswer};
+ghost use Rattle.rules.specs.Calls.{writingNumber, writeAnswer, bytesWritten, readAnswer};
 ghost use Rattle.rules.specs.declared.count.CountFault.the-variants.{Cut};
 
-// The bytes ended before a reading that began at the bit `from`.
+// The bytes ended within a reading that began at the bit `from`.
 #[derive(Clone, Copy, Debug, PartialEq, Eq)]
 pub struct BytesEnd {
     pub from: usize,
@@ -31,6 +31,7 @@ pub struct Counted {
     pub next: usize,
 }
 
+// Why a count is not written: it is above the greatest number, or its bits would run past the buffer's end.
 #[derive(Clone, Copy, Debug, PartialEq, Eq)]
 pub enum WriteRefusal {
     AboveTop,
@@ -39,7 +40,7 @@ pub enum WriteRefusal {
 
 impl WriteRefusal {
     pub fn number(self) -> u8
-        ensures { λ r. ⌜ r ≡ refusalNumber self ⌝ }
+        ensures { λ r. ⌜ r ≡ writingNumber self ⌝ }
     {
         match self {
             WriteRefusal::AboveTop => 6,

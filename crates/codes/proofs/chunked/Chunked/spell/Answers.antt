@@ -22,28 +22,28 @@ pub then-spelled-requires : need.then-spelled-requires
 then-spelled-requires c κs =
     let code = c .args .self .now in
     let l = c .loop-turn in
-    let done = lowBits (l .spelled .count) (l .spelled .word) in
+    let done = lowBits (l .spelled .size) (l .spelled .word) in
     let is = left (l .turn) (code .later) (l .width) (l .rest) done _ (c .loop-turn-test .taken) (l .inv .0) in
     let room = room-left (31 - l .turn) (code .first) (code .later) (c .args .number) (l .width) (l .rest) done is (code .firstLeast) (code .firstMost) (code .laterLeast) (code .laterMost) (omega arith) in
     record {
       below = l .inv .1;
       some = omega arith;
       small = omega (arith, c .group-of .ensures, group-small (l .width) (l .rest));
-      fits = omega (arith, room, length-lowBits (l .spelled .count) (l .spelled .word));
+      fits = omega (arith, room, length-lowBits (l .spelled .size) (l .spelled .word));
     }
 
 -- the bits after this turn
-grown : (c : After-then-spelled) → lowBits (c .then-spelled .result .count) (c .then-spelled .result .word) ≡ lowBits (c .loop-turn .spelled .count) (c .loop-turn .spelled .word) ++ (lowBits (c .loop-turn .width) (c .loop-turn .rest) ++ (more (c .loop-turn .width) (c .loop-turn .rest) ∷ []))
+grown : (c : After-then-spelled) → lowBits (c .then-spelled .result .size) (c .then-spelled .result .word) ≡ lowBits (c .loop-turn .spelled .size) (c .loop-turn .spelled .word) ++ (lowBits (c .loop-turn .width) (c .loop-turn .rest) ++ (more (c .loop-turn .width) (c .loop-turn .rest) ∷ []))
 grown c =
     let l = c .loop-turn in
     c .then-spelled .ensures .bits
-    ∙ ap (λ bs. lowBits (l .spelled .count) (l .spelled .word) ++ bs) (ap (lowBits (l .width + 1)) (c .group-of .ensures) ∙ group-bits (l .width) (l .rest))
+    ∙ ap (λ bs. lowBits (l .spelled .size) (l .spelled .word) ++ bs) (ap (lowBits (l .width + 1)) (c .group-of .ensures) ∙ group-bits (l .width) (l .rest))
 
 pub returns-then-rest-eq0 : need.returns-then-rest-eq0
 returns-then-rest-eq0 c =
     let code = c .args .self .now in
     let l = c .loop-turn in
-    let done = lowBits (l .spelled .count) (l .spelled .word) in
+    let done = lowBits (l .spelled .size) (l .spelled .word) in
     let is = left (l .turn) (code .later) (l .width) (l .rest) done _ (c .loop-turn-test .taken) (l .inv .0) in
     grown (need.at·returns-then-rest-eq0 c .After-then-spelled)
     ∙ spelled-last (31 - l .turn) (code .first) (code .later) (c .args .number) (l .width) (l .rest) done is (le-ltb 0 (l .rest / 2 ^ (l .width)) (omega arith))
@@ -52,7 +52,7 @@ pub loop-turn-again : need.loop-turn-again
 loop-turn-again c =
     let code = c .args .self .now in
     let l = c .loop-turn in
-    let done = lowBits (l .spelled .count) (l .spelled .word) in
+    let done = lowBits (l .spelled .size) (l .spelled .word) in
     let is = left (l .turn) (code .later) (l .width) (l .rest) done _ (c .loop-turn-test .taken) (l .inv .0) in
     let turns : 32 - (l .turn + 1) ≡ 31 - l .turn = omega arith in
     (ap (λ bs. bs ++ groups (32 - (l .turn + 1)) (code .later) (code .later) (l .rest / 2 ^ (l .width))) (grown (need.at·loop-turn-again c .After-then-spelled))
@@ -63,4 +63,4 @@ loop-turn-again c =
 pub returns : need.returns
 returns c =
     let l = c .loop-turn in
-    sym (spelled-all (c .args .self .now .later) (l .width) (l .rest) (32 - l .turn) (lowBits (l .spelled .count) (l .spelled .word)) (omega arith)) ∙ l .inv .0
+    sym (spelled-all (c .args .self .now .later) (l .width) (l .rest) (32 - l .turn) (lowBits (l .spelled .size) (l .spelled .word)) (omega arith)) ∙ l .inv .0

@@ -7,5 +7,5 @@ use Rattle.codes.proofs.chunked.Chunked.spell.Given as given
 
 abbrev pub Inv-loop-turn : given.InvT-loop-turn
 Inv-loop-turn l =
-    (lowBits (l .spelled .count) (l .spelled .word) ++ groups (32 - l .turn) (l .self .later) (l .width) (l .rest) ≡ groups 32 (l .self .later) (l .self .first) (l .number))
-    × (l .spelled .word < 2 ^ (l .spelled .count)) × (1 ≤ l .width) × (l .width ≤ 6)
+    (lowBits (l .spelled .size) (l .spelled .word) ++ groups (32 - l .turn) (l .self .later) (l .width) (l .rest) ≡ groups 32 (l .self .later) (l .self .first) (l .number))
+    × (l .spelled .word < 2 ^ (l .spelled .size)) × (1 ≤ l .width) × (l .width ≤ 6)

@@ -16,8 +16,8 @@ returns c =
     let bytes = c .args .buffer .now in
     let spelled = c .spell-spelled .result in
     let within : n ≤ m .top = omega (arith, c .top .ensures) in
-    let long = ap length (sym (c .spell-spelled .ensures)) ∙ length-lowBits (spelled .count) (spelled .word) in
+    let long = ap length (sym (c .spell-spelled .ensures)) ∙ length-lowBits (spelled .size) (spelled .word) in
     record {
-      answer = c .write-bits .ensures .answer ∙ sym (answer-within m n place (spelled .count) bytes within long);
-      bytes = c .write-bits .ensures .bytes ∙ ap (λ bits. laid place bits bytes) (c .spell-spelled .ensures) ∙ sym (bytes-within m n place (spelled .count) bytes within);
+      answer = c .write-bits .ensures .answer ∙ sym (answer-within m n place (spelled .size) bytes within long);
+      bytes = c .write-bits .ensures .bytes ∙ ap (λ bits. laid place bits bytes) (c .spell-spelled .ensures) ∙ sym (bytes-within m n place (spelled .size) bytes within);
     }
