@@ -179,7 +179,7 @@ module _ (turns later w n seen value used : ℕ) (r : Rest (suc turns) later w n
       let xs = tail turns later w n (more w n) in
       let place : k ≡ length (lowBits w n) + suc (k - (w + 1)) = omega (arith, length-lowBits w n) in
       let front : take k (groups (suc turns) later w n) ≡ lowBits w n ++ (more w n ∷ take (k - (w + 1)) xs) =
-          ap (λ j. take j (groups (suc turns) later w n)) place ∙ take-append-add (lowBits w n) (more w n ∷ xs) (suc (k - (w + 1))) in
+      ap (λ j. take j (groups (suc turns) later w n)) place ∙ take-append-add (lowBits w n) (more w n ∷ xs) (suc (k - (w + 1))) in
       ap (readGroups (suc turns) later w seen value used) front ∙ read-more (take (k - (w + 1)) xs) e
       ∙ ap (λ b. readNext (take (k - (w + 1)) (tail turns later w n b))) e ∙ ih
 
@@ -195,10 +195,10 @@ cuts zero later w n seen value used k r h = absurd (omega (arith, r .some))
 cuts (suc turns) later w n seen value used k r h =
     either (ltb k (w + 1)) (λ l. cut-early turns later w n seen value used r k (ltb-true k (w + 1) l))
     (λ l. either (more w n)
-      (λ e. let left : k - (w + 1) < length (groups turns later later (n / 2 ^ w)) = omega (arith, h, length-groups turns later w n true e, ltb-false k (w + 1) l) in
-        cut-later turns later w n seen value used r k (ltb-false k (w + 1) l) e
-        (cuts turns later later (n / 2 ^ w) (seen + w) (value + (n % 2 ^ w) * 2 ^ seen) (used + (w + 1)) (k - (w + 1)) (next turns later w n seen value r (ltb-true 0 (n / 2 ^ w) e)) left))
-      (λ e. absurd (omega (arith, h, length-groups turns later w n false e, ltb-false k (w + 1) l))))
+    (λ e. let left : k - (w + 1) < length (groups turns later later (n / 2 ^ w)) = omega (arith, h, length-groups turns later w n true e, ltb-false k (w + 1) l) in
+    cut-later turns later w n seen value used r k (ltb-false k (w + 1) l) e
+    (cuts turns later later (n / 2 ^ w) (seen + w) (value + (n % 2 ^ w) * 2 ^ seen) (used + (w + 1)) (k - (w + 1)) (next turns later w n seen value r (ltb-true 0 (n / 2 ^ w) e)) left))
+    (λ e. absurd (omega (arith, h, length-groups turns later w n false e, ltb-false k (w + 1) l))))
 
 -- Bits that are read as a number: they begin with the groups of the rest of it.
 record Spelt (turns later w seen value used : ℕ) (bs : List Bool) (n u : ℕ) : Type 0 where
@@ -301,18 +301,18 @@ spelt (suc turns) later w seen value used bs n u lw ll e =
     let goes = readGroups turns later later (seen + w) reached (used + (w + 1)) (drop (w + 1) bs) in
     either (leb (w + 1) (length bs))
     (λ t.
-        let enough = leb-true (w + 1) (length bs) t in
-        let opened : judged (getD bs w false) seen w g reached (used + (w + 1)) goes ≡ number n u = sym (cond-true (leb (w + 1) (length bs)) _ _ t) ∙ e in
-        let at : (b : Bool) → getD bs w false ≡ b → judged b seen w g reached (used + (w + 1)) goes ≡ number n u = λ b c. ap (λ x. judged x seen w g reached (used + (w + 1)) goes) (sym c) ∙ opened in
-        either (getD bs w false)
-        (λ c.
-            let s = spelt turns later later (seen + w) reached (used + (w + 1)) (drop (w + 1) bs) n u ll ll (number-goes seen w g reached (used + (w + 1)) goes n u (at true c)) in
-            spelt-more turns later w seen value used bs n u lw enough c (s .fits) s)
-        (λ c.
-            let ends = number-ends seen w g reached (used + (w + 1)) goes n u (at false c) in
-            let same = ends .0 in
-            let is : reached ≡ n = cc in
-            spelt-last turns later w seen value used bs n u lw enough c (omega (arith, number-fits seen w g reached (used + (w + 1)) goes n u false (at false c), is)) ends))
+    let enough = leb-true (w + 1) (length bs) t in
+    let opened : judged (getD bs w false) seen w g reached (used + (w + 1)) goes ≡ number n u = sym (cond-true (leb (w + 1) (length bs)) _ _ t) ∙ e in
+    let at : (b : Bool) → getD bs w false ≡ b → judged b seen w g reached (used + (w + 1)) goes ≡ number n u = λ b c. ap (λ x. judged x seen w g reached (used + (w + 1)) goes) (sym c) ∙ opened in
+    either (getD bs w false)
+    (λ c.
+    let s = spelt turns later later (seen + w) reached (used + (w + 1)) (drop (w + 1) bs) n u ll ll (number-goes seen w g reached (used + (w + 1)) goes n u (at true c)) in
+    spelt-more turns later w seen value used bs n u lw enough c (s .fits) s)
+    (λ c.
+    let ends = number-ends seen w g reached (used + (w + 1)) goes n u (at false c) in
+    let same = ends .0 in
+    let is : reached ≡ n = cc in
+    spelt-last turns later w seen value used bs n u lw enough c (omega (arith, number-fits seen w g reached (used + (w + 1)) goes n u false (at false c), is)) ends))
     (λ t. absurd (cut≢number n u (sym (read-short turns later w seen value used bs (leb-false (w + 1) (length bs) t)) ∙ e)))
 
 -- How many bits are written: `count` with `seen` bits of the number in them. Each later group of one bit takes two,
@@ -336,20 +336,20 @@ later-short (suc turns) b n seen count lb mb some fits sized =
     let few = few-bits n seen some fits in
     either (more b n)
     (λ e.
-        let on = ltb-true 0 (n / 2 ^ b) e in
-        let fits′ : (n / 2 ^ b) * 2 ^ (seen + b) ≤ greatest = omega (arith, fits, joined-value n b seen) in
-        let sized′ : Sized b (seen + b) (count + (b + 1)) = (λ h. omega (arith, sized .0 h), λ h. omega (arith, sized .1 h)) in
-        omega (arith, later-short turns b (n / 2 ^ b) (seen + b) (count + (b + 1)) lb mb on fits′ sized′, length-groups turns b b n true e))
+    let on = ltb-true 0 (n / 2 ^ b) e in
+    let fits′ : (n / 2 ^ b) * 2 ^ (seen + b) ≤ greatest = omega (arith, fits, joined-value n b seen) in
+    let sized′ : Sized b (seen + b) (count + (b + 1)) = (λ h. omega (arith, sized .0 h), λ h. omega (arith, sized .1 h)) in
+    omega (arith, later-short turns b (n / 2 ^ b) (seen + b) (count + (b + 1)) lb mb on fits′ sized′, length-groups turns b b n true e))
     (λ e. elim (cases-lt 1 b) [ inl h ↦ omega (arith, sized .1 h, length-groups turns b b n false e) | inr h ↦ omega (arith, sized .0 h, length-groups turns b b n false e) ])
 
 pub short : (turns later w n : ℕ) → 1 ≤ w → w ≤ 16 → 1 ≤ later → later ≤ 16 → n ≤ greatest → length (groups (suc turns) later w n) ≤ 64
 short turns later w n lw mw ll ml fits =
     either (more w n)
     (λ e.
-        let on = ltb-true 0 (n / 2 ^ w) e in
-        let rest : (n / 2 ^ w) * 2 ^ w ≤ greatest = omega (arith, fits, div-add-mod' n (2 ^ w)) in
-        let sized : Sized later w (w + 1) = (λ h. omega arith, λ h. omega arith) in
-        omega (arith, later-short turns later (n / 2 ^ w) w (w + 1) ll ml on rest sized, length-groups turns later w n true e))
+    let on = ltb-true 0 (n / 2 ^ w) e in
+    let rest : (n / 2 ^ w) * 2 ^ w ≤ greatest = omega (arith, fits, div-add-mod' n (2 ^ w)) in
+    let sized : Sized later w (w + 1) = (λ h. omega arith, λ h. omega arith) in
+    omega (arith, later-short turns later (n / 2 ^ w) w (w + 1) ll ml on rest sized, length-groups turns later w n true e))
     (λ e. omega (arith, length-groups turns later w n false e))
 
 -- a number of the code, before any of it is read

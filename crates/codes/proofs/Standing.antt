@@ -56,7 +56,7 @@ read-on m sound (n ∷ ns) place bytes rest small is =
     let next = place + length (m .bits n) in
     let answer : readAnswer m place bytes ≡ answerOf place (number n (length (m .bits n))) = ap (λ l. answerOf place (m .reading l)) here ∙ ap (answerOf place) (sound .whole n (small .0) (joined (m .bits) ns ++ rest)) in
     let after : drop next (bitsIn bytes) ≡ joined (m .bits) ns ++ rest =
-        sym (drop-drop (length (m .bits n)) place (bitsIn bytes)) ∙ ap (drop (length (m .bits n))) here ∙ drop-at (m .bits n) (joined (m .bits) ns ++ rest) (length (m .bits n)) refl in
+    sym (drop-drop (length (m .bits n)) place (bitsIn bytes)) ∙ ap (drop (length (m .bits n))) here ∙ drop-at (m .bits n) (joined (m .bits) ns ++ rest) (length (m .bits n)) refl in
     let far : next + length (joined (m .bits) ns) ≡ place + length (joined (m .bits) (n ∷ ns)) = omega (arith, length-append (m .bits n) (joined (m .bits) ns)) in
     (next, answer, subst (λ e. ReadBack m ns next e bytes) far (read-on m sound ns next bytes rest (small .1) after))
 

@@ -69,8 +69,10 @@ took r r′ n x answer small is after ok = go (leb n (length (bitsLeft r))) refl
   where
     all : min n 64 ≡ n
     all = omega arith
+
     told : wordTaken (r .from) n (bitsLeft r) ≡ Ok x
     told = ap (λ k. wordTaken (r .from) k (bitsLeft r)) (sym all) ∙ sym is ∙ ok
+
     go : (b : Bool) → leb n (length (bitsLeft r)) ≡ b → Took r r′ n x
     go false few =
         absurd (ok≢err x _ (sym told ∙ none-taken (r .from) n (bitsLeft r) (leb-false n (length (bitsLeft r)) few)))

@@ -32,8 +32,8 @@ abbrev pub judged : Bool → ℕ → ℕ → ℕ → ℕ → ℕ → Reading →
 judged connect seen w group value used goes =
     cond (ltb greatest value) bad
     (cond connect
-      (cond (leb 32 (seen + w)) bad goes)
-      (cond (ltb 0 seen && eqb group 0) bad (number value used)))
+    (cond (leb 32 (seen + w)) bad goes)
+    (cond (ltb 0 seen && eqb group 0) bad (number value used)))
 
 -- The reading of a group of w bits, and of groups of `later` bits after it. `value` is the number before this group,
 -- from the `seen` value bits, and `used` counts the bits read so far. A 33rd group is never reached: with its 32nd
@@ -44,9 +44,9 @@ readGroups (suc turns) later w seen value used bs =
     let group = valueOf (take w bs) in
     let reached = value + group * 2 ^ seen in
     cond (leb (w + 1) (length bs))
-      (judged (getD bs w false) seen w group reached (used + (w + 1))
-        (readGroups turns later later (seen + w) reached (used + (w + 1)) (drop (w + 1) bs)))
-      cut
+    (judged (getD bs w false) seen w group reached (used + (w + 1))
+    (readGroups turns later later (seen + w) reached (used + (w + 1)) (drop (w + 1) bs)))
+    cut
 
 abbrev pub chunkedMeaning : ℕ → ℕ → Meaning
 chunkedMeaning first later = record {

@@ -29,7 +29,7 @@ examples = bitsFor 3
 -- 3 is 11 0, and 7 is 11 1 10 0; 11 1 00 0 is bad; 11 1 0 and the empty list are cut
 abbrev pub Worked-examples : Type 0
 Worked-examples = map (told (chunkedMeaning 2 2)) examples
-  ≡ ( spelt (true ∷ true ∷ false ∷ [])
+    ≡ (spelt (true ∷ true ∷ false ∷ [])
     ∷ spelt (true ∷ true ∷ true ∷ true ∷ false ∷ false ∷ [])
     ∷ read bad
     ∷ read cut

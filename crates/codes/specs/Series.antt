@@ -12,16 +12,16 @@ use Rattle.codes.specs.declared.series.Series.{Series}
 abbrev pub seriesFrom : Meaning → ℕ → List ℕ → ℕ → List ℕ → Series
 seriesFrom m done [] place bytes = record { written = done; next = place; refusal = None }
 seriesFrom m done (n ∷ ns) place bytes = elim (writeAnswer m n place bytes) [
-    Ok next ↦ seriesFrom m (done + 1) ns next (bytesWritten m n place bytes)
+  | Ok next ↦ seriesFrom m (done + 1) ns next (bytesWritten m n place bytes)
   | Err e ↦ record { written = done; next = place; refusal = Some e }
-  ]
+]
 
 abbrev pub seriesBytes : Meaning → List ℕ → ℕ → List ℕ → List ℕ
 seriesBytes m [] place bytes = bytes
 seriesBytes m (n ∷ ns) place bytes = elim (writeAnswer m n place bytes) [
-    Ok next ↦ seriesBytes m ns next (bytesWritten m n place bytes)
+  | Ok next ↦ seriesBytes m ns next (bytesWritten m n place bytes)
   | Err e ↦ bytes
-  ]
+]
 
 -- from the place on the counts are read one after the other, and the place after the last is `end`
 abbrev pub ReadBack : Meaning → List ℕ → ℕ → ℕ → List ℕ → Type 0

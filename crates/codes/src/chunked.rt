@@ -8,6 +8,7 @@ ghost use Rattle.codes.specs.Refusal.{between};
 use crate::reader::BitReader;
 use crate::refusal::MakeRefusal;
 use crate::writer::write_bits;
+use rules::count::CodeName;
 use rules::count::CountCode;
 use rules::count::CountFault;
 use rules::count::CountFaultFromEnd;
@@ -88,14 +89,18 @@ fn group_in(word: u64, width: u32) -> u64
     word % (1 << width)
 }
 
+// The turns of a number: it has 32 bits, and a group takes one at least.
+const TURNS: u32 = 32;
+
 impl Chunked {
+    // The bits of a number.
     fn spell(&self, number: u32) -> Spelled
         ensures { λ r. ⌜ lowBits (r .size) (r .word) ≡ groups 32 (now (self .entry) .later) (now (self .entry) .first) number ⌝ }
     {
         let mut spelled = Spelled { word: 0, size: 0 };
         let mut rest = u64::from(number);
         let mut width = self.first;
-        for turn in 0..32u32 {
+        for turn in 0..TURNS {
             spelled = spelled.then(group_of(rest, width), width + 1);
             rest >>= width;
             if rest == 0 {
@@ -114,7 +119,7 @@ pub impl CountCode for Chunked as ChunkedCode {
         u32::MAX
     }
 
-    fn name(&self) -> [u8; 3] {
+    fn name(&self) -> CodeName {
         [1, self.first as u8, self.later as u8]
     }
 
@@ -131,7 +136,7 @@ pub impl CountCode for Chunked as ChunkedCode {
         let mut value: u64 = 0;
         let mut seen: u32 = 0;
         let mut width = self.first;
-        for turn in 0..32u32 {
+        for turn in 0..TURNS {
             let word = reader.take(width + 1)?;
             let group = group_in(word, width);
             value += group << seen;
@@ -142,7 +147,10 @@ pub impl CountCode for Chunked as ChunkedCode {
                 if seen > 0 && group == 0 {
                     return Err(CountFault::Bad(place));
                 }
-                return Ok(Counted { number: value as u32, next: reader.place() });
+                return Ok(Counted {
+                    number: value as u32,
+                    next: reader.place(),
+                });
             }
             seen += width;
             if seen >= 32 {

@@ -5,6 +5,7 @@ ghost use Rattle.codes.specs.Fixed.{fixedMeaning, fixedMade};
 use crate::reader::BitReader;
 use crate::refusal::MakeRefusal;
 use crate::writer::write_bits;
+use rules::count::CodeName;
 use rules::count::CountCode;
 use rules::count::CountFault;
 use rules::count::CountFaultFromEnd;
@@ -37,7 +38,7 @@ pub impl CountCode for Fixed as FixedCode {
         ((1u64 << self.width) - 1) as u32
     }
 
-    fn name(&self) -> [u8; 3] {
+    fn name(&self) -> CodeName {
         [2, self.width as u8, 0]
     }
 
@@ -51,6 +52,9 @@ pub impl CountCode for Fixed as FixedCode {
     fn read(&self, place: usize, bytes: &[u8]) -> Result<Counted, CountFault> {
         let mut reader = BitReader::new(bytes, place);
         let number = reader.take(self.width)? as u32;
-        Ok(Counted { number, next: reader.place() })
+        Ok(Counted {
+            number,
+            next: reader.place(),
+        })
     }
 }

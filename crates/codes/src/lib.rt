@@ -8,10 +8,9 @@ pub mod fixed;
 pub mod reader;
 pub mod refusal;
 pub mod series;
-pub mod writer;
-
 #[cfg(test)]
 mod tests;
+pub mod writer;
 
 // How many worked examples of the chunked code are proved.
 pub fn worked_examples() -> usize

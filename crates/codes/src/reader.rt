@@ -18,7 +18,11 @@ impl<'a> BitReader<'a> {
     pub fn new(bytes: &'a [u8], place: usize) -> BitReader<'a>
         ensures { λ r. ⌜ r ≡ record { bytes = bytes .entry; from = place; place = place } ⌝ }
     {
-        BitReader { bytes, from: place, place }
+        BitReader {
+            bytes,
+            from: place,
+            place,
+        }
     }
 
     // The place of the next bit.

@@ -14,7 +14,12 @@ pub struct Series {
 
 // Writes counts one after the other from the place on, up to the first that is refused.
 // Whatever the code, they are then read back as themselves.
-pub fn write_series<C: CountCode>(code: &C, numbers: &[u64], place: usize, buffer: &mut [u8]) -> Series
+pub fn write_series<C: CountCode>(
+    code: &C,
+    numbers: &[u64],
+    place: usize,
+    buffer: &mut [u8],
+) -> Series
     ensures answer { λ r. ⌜ r ≡ seriesFrom (C·CountCode .meaning (now (code .entry))) 0 (now (numbers .entry)) place (now (buffer .entry)) ⌝ }
     ensures bytes { λ _. ⌜ now (buffer .exit) ≡ seriesBytes (C·CountCode .meaning (now (code .entry))) (now (numbers .entry)) place (now (buffer .entry)) ⌝ }
     ensures readback { λ r. ⌜ ReadBack (C·CountCode .meaning (now (code .entry))) (take (r .written) (now (numbers .entry))) place (r .next) (now (buffer .exit)) ⌝ }
@@ -23,8 +28,16 @@ pub fn write_series<C: CountCode>(code: &C, numbers: &[u64], place: usize, buffe
     for (written, number) in numbers.iter().enumerate() {
         match code.write(*number, next, buffer) {
             Ok(after) => next = after,
-            Err(refusal) => return Series { written, next, refusal: Some(refusal) },
+            Err(refusal) => return Series {
+                written,
+                next,
+                refusal: Some(refusal),
+            },
         }
     }
-    Series { written: numbers.len(), next, refusal: None }
+    Series {
+        written: numbers.len(),
+        next,
+        refusal: None,
+    }
 }

@@ -62,9 +62,18 @@ fn names() -> Result<(), Fail> {
 #[test]
 fn refusals_leave_the_buffer() -> Result<(), Fail> {
     let mut buffer = [0xA5u8];
-    check(matches!(fixed(4)?.write(16, 9, &mut buffer), Err(WriteRefusal::AboveTop)))?;
-    check(matches!(fixed(4)?.write(15, 5, &mut buffer), Err(WriteRefusal::NoRoom)))?;
-    check(matches!(chunked(1, 1)?.write(1 << 32, 0, &mut buffer), Err(WriteRefusal::AboveTop)))?;
+    check(matches!(
+        fixed(4)?.write(16, 9, &mut buffer),
+        Err(WriteRefusal::AboveTop)
+    ))?;
+    check(matches!(
+        fixed(4)?.write(15, 5, &mut buffer),
+        Err(WriteRefusal::NoRoom)
+    ))?;
+    check(matches!(
+        chunked(1, 1)?.write(1 << 32, 0, &mut buffer),
+        Err(WriteRefusal::AboveTop)
+    ))?;
     check(buffer == [0xA5])?;
     check(matches!(fixed(4)?.write(15, 4, &mut buffer), Ok(8)))?;
     check(buffer == [0xF5])
@@ -87,7 +96,12 @@ fn bad_and_cut() -> Result<(), Fail> {
 #[test]
 fn full_buffer() -> Result<(), Fail> {
     let mut buffer = [0u8; 16];
-    let series = write_series(&chunked(1, 1)?, &[4294967295, 4294967295, 0], 0, &mut buffer);
+    let series = write_series(
+        &chunked(1, 1)?,
+        &[4294967295, 4294967295, 0],
+        0,
+        &mut buffer,
+    );
     check_eq(series.written, 2)?;
     check_eq(series.next, 128)?;
     check(matches!(series.refusal, Some(WriteRefusal::NoRoom)))

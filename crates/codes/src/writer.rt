@@ -7,7 +7,12 @@ use crate::reader::bit_len;
 use rules::count::WriteRefusal;
 
 // Lays the lowest `width` bits of `word` over the buffer's from the place on, and answers the place after them.
-pub fn write_bits(word: u64, width: u32, place: usize, buffer: &mut [u8]) -> Result<usize, WriteRefusal>
+pub fn write_bits(
+    word: u64,
+    width: u32,
+    place: usize,
+    buffer: &mut [u8],
+) -> Result<usize, WriteRefusal>
     ensures answer { λ r. ⌜ r ≡ room place width (now (buffer .entry)) ⌝ }
     ensures bytes { λ _. ⌜ now (buffer .exit) ≡ laid place (lowBits width word) (now (buffer .entry)) ⌝ }
 {

@@ -10,7 +10,7 @@ use Rattle.std.specs.declared.vec.Vec.{Vec}
 use Rattle.std.specs.declared.alloc.Global.{Global}
 use Rattle.std.specs.declared.result.Result.{Result}
 use Rattle.std.specs.declared.result.Result.the-variants.{Ok, Err}
-use Rattle.text.specs.Lines.{Cursor, cursor, linesOf, firstLine, afterFirst, numberAfter, placeOf, numberAt, letterAt, isEnd, past}
+use Rattle.text.specs.Lines.{Cursor, cursor, linesOf, firstLine, afterFirst, numberAfter, nextPlace, numberAt, letterAt, isEnd, past}
 use Rattle.text.specs.declared.place.Place.{Place}
 use Rattle.counts.specs.declared.request.CodeAsked.{CodeAsked}
 use Rattle.counts.specs.declared.request.CodeAsked.the-variants.{Chunked, Fixed}
@@ -24,7 +24,7 @@ withNumber most c goes = elim (numberAt most c) [ Ok n ↦ goes n (past true c) 
 
 -- no word may be left
 abbrev pub ended : {A : Type 0} → A → Cursor → Result A Place
-ended a c = cond (isEnd c) (Ok a) (Err (placeOf (c .number) (c .at)))
+ended a c = cond (isEnd c) (Ok a) (Err (nextPlace c))
 
 abbrev pub chunkedAsked : Cursor → Result CodeAsked Place
 chunkedAsked c = withNumber (2 ^ 32 - 1) c (λ first c′. withNumber (2 ^ 32 - 1) c′ (λ later. ended (Chunked first later)))
@@ -35,9 +35,9 @@ fixedAsked c = withNumber (2 ^ 32 - 1) c (λ width. ended (Fixed width))
 -- `K` and two lengths, or `F` and a width
 abbrev pub codeAsked : Cursor → Result CodeAsked Place
 codeAsked c = elim (letterAt c) [
-    Ok l ↦ cond (eqb l 75) (chunkedAsked (past true c)) (cond (eqb l 70) (fixedAsked (past true c)) (Err (placeOf (c .number) (c .at))))
+  | Ok l ↦ cond (eqb l 75) (chunkedAsked (past true c)) (cond (eqb l 70) (fixedAsked (past true c)) (Err (nextPlace c)))
   | Err p ↦ Err p
-  ]
+]
 
 abbrev pub countAsked : Cursor → Result ℕ Place
 countAsked c = withNumber (2 ^ 64 - 1) c ended

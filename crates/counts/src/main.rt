@@ -1,7 +1,6 @@
 // Writes counts in a code and reads them back, so that codes can be compared.
 mod report;
 mod request;
-
 #[cfg(test)]
 mod tests;
 
@@ -38,7 +37,12 @@ fn compare<C: CountCode>(rt: &LibcRuntime, code: &C, counts: &[u64]) -> Result<(
     read_back(rt, code, &buffer, series.written)
 }
 
-fn read_back<C: CountCode>(rt: &LibcRuntime, code: &C, buffer: &[u8], counts: usize) -> Result<(), AnyError> {
+fn read_back<C: CountCode>(
+    rt: &LibcRuntime,
+    code: &C,
+    buffer: &[u8],
+    counts: usize,
+) -> Result<(), AnyError> {
     let heap = rt.alloc();
     let mut place = 0;
     for _ in 0..counts {

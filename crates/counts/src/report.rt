@@ -32,7 +32,13 @@ fn bit_char(bit: u64) -> char
     if bit == 1 { '1' } else { '0' }
 }
 
-pub fn count_line(heap: Global, count: u64, from: usize, to: usize, buffer: &[u8]) -> Result<String, AllocError>
+pub fn count_line(
+    heap: Global,
+    count: u64,
+    from: usize,
+    to: usize,
+    buffer: &[u8],
+) -> Result<String, AllocError>
     ensures { λ r. ⌜ made r (λ s. string-bytes s ≡ countLine count from to (now (buffer .entry))) ⌝ }
 {
     let digits = hex::text(heap, count)?;

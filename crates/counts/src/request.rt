@@ -2,7 +2,8 @@ ghost use mathlib.Core.Path.{_≡_};
 ghost use mathlib.Core.List.{[]};
 ghost use Prim.Native.Nat.{_-_, _^_};
 ghost use Rattle.std.specs.Results.{isOk};
-ghost use Rattle.text.specs.Lines.{cursor, linesOf, numberAt, past};
+ghost use Rattle.text.specs.Lines.{numberAt, past};
+ghost use Rattle.text.specs.Views.{wordsAt, linesLeft, linesGiven};
 ghost use Rattle.counts.specs.Request.{chunkedAsked, fixedAsked, codeAsked, ended, countAsked, countsAsked, TellsCounts, Tells, askedBy};
 ghost use Rattle.counts.specs.declared.request.ParseFault.the-variants.{BadWord, Memory};
 use std::alloc::AllocError;
@@ -30,7 +31,7 @@ pub enum ParseFault {
     Memory,
 }
 
-pub impl From<Place> for ParseFault as ParseFaultFromPlace {
+impl From<Place> for ParseFault as ParseFaultFromPlace {
     ghost converts = { λ p r. r ≡ BadWord p };
 
     fn from(place: Place) -> ParseFault {
@@ -38,7 +39,7 @@ pub impl From<Place> for ParseFault as ParseFaultFromPlace {
     }
 }
 
-pub impl From<AllocError> for ParseFault as ParseFaultFromAlloc {
+impl From<AllocError> for ParseFault as ParseFaultFromAlloc {
     ghost converts = { λ _ r. r ≡ Memory };
 
     fn from(_e: AllocError) -> ParseFault {
@@ -46,7 +47,7 @@ pub impl From<AllocError> for ParseFault as ParseFaultFromAlloc {
     }
 }
 
-pub impl<T: Drop> From<Refused<T>> for ParseFault as ParseFaultFromRefused {
+impl<T: Drop> From<Refused<T>> for ParseFault as ParseFaultFromRefused {
     ghost converts = { λ _ r. r ≡ Memory };
 
     fn from(_e: Refused<T>) -> ParseFault {
@@ -56,21 +57,25 @@ pub impl<T: Drop> From<Refused<T>> for ParseFault as ParseFaultFromRefused {
 
 // A number of 32 bits.
 fn number32(words: &mut Words) -> Result<u32, Place>
-    ensures answer { λ r. ⌜ r ≡ numberAt (2 ^ 32 - 1) (cursor (now (now (words .entry) .line)) (now (words .entry) .number) (now (words .entry) .at)) ⌝ }
-    ensures after { λ r. ⌜ cursor (now (now (words .exit) .line)) (now (words .exit) .number) (now (words .exit) .at) ≡ past (isOk r) (cursor (now (now (words .entry) .line)) (now (words .entry) .number) (now (words .entry) .at)) ⌝ }
+    ensures answer { λ r. ⌜ r ≡ numberAt (2 ^ 32 - 1) (wordsAt (now (words .entry))) ⌝ }
+    ensures after { λ r. ⌜ wordsAt (now (words .exit)) ≡ past (isOk r) (wordsAt (now (words .entry))) ⌝ }
 {
     let number = words.number(u64::from(u32::MAX))?;
     Ok(number as u32)
 }
 
 fn end(words: &Words) -> Result<(), Place>
-    ensures { λ r. ⌜ r ≡ ended tt (cursor (now (now (words .entry) .line)) (now (words .entry) .number) (now (words .entry) .at)) ⌝ }
+    ensures { λ r. ⌜ r ≡ ended tt (wordsAt (now (words .entry))) ⌝ }
 {
-    if words.is_end() { Ok(()) } else { Err(words.place()) }
+    if words.is_end() {
+        Ok(())
+    } else {
+        Err(words.place())
+    }
 }
 
 fn chunked_asked(words: &mut Words) -> Result<CodeAsked, Place>
-    ensures { λ r. ⌜ r ≡ chunkedAsked (cursor (now (now (words .entry) .line)) (now (words .entry) .number) (now (words .entry) .at)) ⌝ }
+    ensures { λ r. ⌜ r ≡ chunkedAsked (wordsAt (now (words .entry))) ⌝ }
 {
     let first = number32(words)?;
     let later = number32(words)?;
@@ -79,7 +84,7 @@ fn chunked_asked(words: &mut Words) -> Result<CodeAsked, Place>
 }
 
 fn fixed_asked(words: &mut Words) -> Result<CodeAsked, Place>
-    ensures { λ r. ⌜ r ≡ fixedAsked (cursor (now (now (words .entry) .line)) (now (words .entry) .number) (now (words .entry) .at)) ⌝ }
+    ensures { λ r. ⌜ r ≡ fixedAsked (wordsAt (now (words .entry))) ⌝ }
 {
     let width = number32(words)?;
     end(words)?;
@@ -87,7 +92,7 @@ fn fixed_asked(words: &mut Words) -> Result<CodeAsked, Place>
 }
 
 fn code_asked(words: &mut Words) -> Result<CodeAsked, Place>
-    ensures { λ r. ⌜ r ≡ codeAsked (cursor (now (now (words .entry) .line)) (now (words .entry) .number) (now (words .entry) .at)) ⌝ }
+    ensures { λ r. ⌜ r ≡ codeAsked (wordsAt (now (words .entry))) ⌝ }
 {
     let place = words.place();
     let letter = words.letter()?;
@@ -101,7 +106,7 @@ fn code_asked(words: &mut Words) -> Result<CodeAsked, Place>
 }
 
 fn count_asked(words: &mut Words) -> Result<u64, Place>
-    ensures { λ r. ⌜ r ≡ countAsked (cursor (now (now (words .entry) .line)) (now (words .entry) .number) (now (words .entry) .at)) ⌝ }
+    ensures { λ r. ⌜ r ≡ countAsked (wordsAt (now (words .entry))) ⌝ }
 {
     let count = words.number(u64::MAX)?;
     end(words)?;
@@ -109,7 +114,7 @@ fn count_asked(words: &mut Words) -> Result<u64, Place>
 }
 
 fn counts_asked(heap: Global, lines: &mut Lines) -> Result<Vec<u64>, ParseFault>
-    ensures { λ r. ⌜ TellsCounts r (countsAsked [] (linesOf (now (now (lines .entry) .rest))) (now (lines .entry) .number)) ⌝ }
+    ensures { λ r. ⌜ TellsCounts r (countsAsked [] (linesLeft (now (lines .entry))) (linesGiven (now (lines .entry)))) ⌝ }
 {
     let mut counts = Vec::new(heap);
     while !lines.is_empty() {

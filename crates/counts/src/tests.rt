@@ -1,7 +1,7 @@
 use crate::report;
-use crate::request::parse;
 use crate::request::CodeAsked;
 use crate::request::ParseFault;
+use crate::request::parse;
 use std::alloc::Global;
 use std::test::*;
 use text::place::Place;

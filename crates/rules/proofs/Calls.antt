@@ -58,6 +58,7 @@ wrote m n place next bytes e = above (ltb (m .top) n) refl
   where
     bits : List Bool
     bits = m .bits n
+
     fit : n ≤ m .top → (b : Bool) → leb (place + length (m .bits n)) (length (bitsIn bytes)) ≡ b → Wrote m n place next bytes
     fit small false few =
         absurd (ok≢err next NoRoom (sym (answer-within m n place (length (m .bits n)) bytes small refl ∙ no-room place (length (m .bits n)) bytes (leb-false (place + length (m .bits n)) (length (bitsIn bytes)) few)) ∙ e))
@@ -72,7 +73,7 @@ wrote m n place next bytes e = above (ltb (m .top) n) refl
         let is : bytesWritten m n place bytes ≡ bytesOf (length bytes) over = bytes-within m n place 0 bytes small ∙ laid-is place (m .bits n) bytes h in
         let seen : bitsOf (bytesWritten m n place bytes) ≡ over = ap bitsOf is ∙ bitsOf-bytesOf (length bytes) over (same ∙ all) in
         let kept : length (bitsIn (bytesWritten m n place bytes)) ≡ length (bitsIn bytes) =
-            length-bitsIn (bytesWritten m n place bytes) ∙ omega (arith, length-bitsOf (bytesWritten m n place bytes), ap length seen, same, all, long) in
+        length-bitsIn (bytesWritten m n place bytes) ∙ omega (arith, length-bitsOf (bytesWritten m n place bytes), ap length seen, same, all, long) in
         record {
           inRange = small;
           next-is = ends;
@@ -81,6 +82,7 @@ wrote m n place next bytes e = above (ltb (m .top) n) refl
           bits-are = take-bitsIn next (bytesWritten m n place bytes) (omega arith) ∙ ap₂ take ends seen ∙ take-overlay place (m .bits n) old (omega arith)
               ∙ ap (λ l. l ++ m .bits n) (sym (take-bitsIn place bytes (omega arith)));
         }
+
     above : (b : Bool) → ltb (m .top) n ≡ b → Wrote m n place next bytes
     above true t = absurd (ok≢err next AboveTop (sym (cond-true (ltb (m .top) n) _ _ t) ∙ e))
     above false t = fit (ltb-false (m .top) n t) (leb (place + length (m .bits n)) (length (bitsIn bytes))) refl
@@ -93,6 +95,7 @@ refused-same m n place bytes x e = above (ltb (m .top) n) refl
     fit small false few = bytes-within m n place 0 bytes small ∙ not-laid place (m .bits n) bytes (leb-false (place + length (m .bits n)) (length (bitsIn bytes)) few)
     fit small true t =
         absurd (ok≢err _ x (sym e ∙ answer-within m n place (length (m .bits n)) bytes small refl ∙ room-is place (length (m .bits n)) bytes (leb-true (place + length (m .bits n)) (length (bitsIn bytes)) t)))
+
     above : (b : Bool) → ltb (m .top) n ≡ b → bytesWritten m n place bytes ≡ bytes
     above true t = cond-true (ltb (m .top) n) _ _ t
     above false t = fit (ltb-false (m .top) n t) (leb (place + length (m .bits n)) (length (bitsIn bytes))) refl

@@ -49,6 +49,9 @@ impl WriteRefusal {
     }
 }
 
+// Three bytes that stand for a code in a trace's header.
+pub type CodeName = [u8; 3];
+
 // A code for counts from 0 to a greatest number. Places are in bits.
 pub trait CountCode {
     ghost meaning: { Self → Meaning };
@@ -58,8 +61,7 @@ pub trait CountCode {
     fn top(&self) -> u32
         ensures { λ r. ⌜ r ≡ meaning (now (self .entry)) .top ⌝ };
 
-    // Three bytes that stand for the code in a trace's header.
-    fn name(&self) -> [u8; 3]
+    fn name(&self) -> CodeName
         ensures { λ r. ⌜ r ≡ meaning (now (self .entry)) .name ⌝ };
 
     // Writes the number's bits from the place on, and answers the place after them.

@@ -117,12 +117,12 @@ wide zero n l h = absurd (omega arith)
 wide (suc most) n l h = ⊎-elim
     (λ small. let is = width-one most n small in record { holds = subst (λ k. n < 16 ^ k) (sym is) small; some = omega arith; few = omega arith })
     (λ large.
-        let is = width-more most n large in
-        let below : n / 16 < 16 ^ most = omega (arith, pow-succ' 16 most) in
-        let left : 0 < most = positive most (n / 16) (omega arith) below in
-        let r = wide most (n / 16) left below in
-        let k = widthFrom most (n / 16) in
-        record { holds = subst (λ j. n < 16 ^ j) (sym is) (omega (arith, r .holds, pow-add 16 1 k)); some = omega arith; few = omega (arith, r .few) })
+    let is = width-more most n large in
+    let below : n / 16 < 16 ^ most = omega (arith, pow-succ' 16 most) in
+    let left : 0 < most = positive most (n / 16) (omega arith) below in
+    let r = wide most (n / 16) left below in
+    let k = widthFrom most (n / 16) in
+    record { holds = subst (λ j. n < 16 ^ j) (sym is) (omega (arith, r .holds, pow-add 16 1 k)); some = omega arith; few = omega (arith, r .few) })
     (cases-lt n 16)
   where
     positive : (m x : ℕ) → 0 < x → x < 16 ^ m → 0 < m

@@ -65,6 +65,10 @@ there line at = leb at (length line)
 abbrev pub placeOf : ℕ → ℕ → Place
 placeOf number at = record { line = number; column = at + 1 }
 
+-- where the next word starts, or should start
+abbrev pub nextPlace : Cursor → Place
+nextPlace c = placeOf (c .number) (c .at)
+
 abbrev pub orBad : Place → Option ℕ → Result ℕ Place
 orBad place (Some n) = Ok n
 orBad place None = Err place
@@ -72,8 +76,8 @@ orBad place None = Err place
 -- the number at an index of a line, or the place of what is no number or missing
 abbrev pub numberAt : ℕ → Cursor → Result ℕ Place
 numberAt most c = cond (there (c .line) (c .at))
-    (orBad (placeOf (c .number) (c .at)) (numberIn most (wordAt (c .line) (c .at))))
-    (Err (placeOf (c .number) (c .at)))
+    (orBad (nextPlace c) (numberIn most (wordAt (c .line) (c .at))))
+    (Err (nextPlace c))
 
 -- the one letter at an index of a line
 abbrev pub letterOf : List ℕ → Option ℕ
@@ -83,8 +87,8 @@ letterOf (c ∷ d ∷ cs) = None
 
 abbrev pub letterAt : Cursor → Result ℕ Place
 letterAt c = cond (there (c .line) (c .at))
-    (orBad (placeOf (c .number) (c .at)) (letterOf (wordAt (c .line) (c .at))))
-    (Err (placeOf (c .number) (c .at)))
+    (orBad (nextPlace c) (letterOf (wordAt (c .line) (c .at))))
+    (Err (nextPlace c))
 
 -- no word is left
 abbrev pub isEnd : Cursor → Bool

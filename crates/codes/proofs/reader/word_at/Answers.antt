@@ -33,6 +33,6 @@ loop-i-again c =
     let place : i < 64 = omega arith in
     let more = word-more (c .args .bytes .now) (c .args .place) i (c .bit-at .result) (omega arith) (c .bit-at .ensures) in
     elim (c .if-bit-at .came) [
-      then-bit-at w ↦ omega (arith, w .word-is, one-shl i 64 place, more, ap (λ b. bit b * 2 ^ i) (w .if-bit-at .taken))
-    | else-bit-at w ↦ omega (arith, w .word-is, more, ap (λ b. bit b * 2 ^ i) (w .if-bit-at .left))
+      | then-bit-at w ↦ omega (arith, w .word-is, one-shl i 64 place, more, ap (λ b. bit b * 2 ^ i) (w .if-bit-at .taken))
+      | else-bit-at w ↦ omega (arith, w .word-is, more, ap (λ b. bit b * 2 ^ i) (w .if-bit-at .left))
     ]

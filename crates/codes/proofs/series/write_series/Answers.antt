@@ -24,13 +24,14 @@ loop-written-again g c =
     let rest = drop (l .written + 1) ns in
     let cons = drop-more ns (l .written) 0 within in
     let answer = sym (c .write .ensures .answer) ∙ c .in-Ok .is in
-    let after = c .write .ensures .bytes in
-    (ap (seriesFrom m (l .written + 1) rest (c .in-Ok .after)) after ∙ sym (series-goes m (l .written) n (l .next) rest (l .buffer) (c .in-Ok .after) answer)
-     ∙ ap (λ xs. seriesFrom m (l .written) xs (l .next) (l .buffer)) (sym cons) ∙ l .inv .0,
-     ap (seriesBytes m rest (c .in-Ok .after)) after ∙ sym (bytes-go m (l .written) n (l .next) rest (l .buffer) (c .in-Ok .after) answer)
-     ∙ ap (λ xs. seriesBytes m xs (l .next) (l .buffer)) (sym cons) ∙ l .inv .1,
-     subst (λ xs. Stands m xs (c .args .place) (c .in-Ok .after) (c .write .last .buffer)) (sym (take-more ns (l .written) 0 within))
-     (subst (Stands m _ (c .args .place) (c .in-Ok .after)) (sym after) (stands-more m (take (l .written) ns) n (c .args .place) (l .next) (c .in-Ok .after) (l .buffer) (l .inv .2) answer)))
+    let after = c .write .ensures .bytes in (
+      ap (seriesFrom m (l .written + 1) rest (c .in-Ok .after)) after ∙ sym (series-goes m (l .written) n (l .next) rest (l .buffer) (c .in-Ok .after) answer)
+          ∙ ap (λ xs. seriesFrom m (l .written) xs (l .next) (l .buffer)) (sym cons) ∙ l .inv .0,
+      ap (seriesBytes m rest (c .in-Ok .after)) after ∙ sym (bytes-go m (l .written) n (l .next) rest (l .buffer) (c .in-Ok .after) answer)
+          ∙ ap (λ xs. seriesBytes m xs (l .next) (l .buffer)) (sym cons) ∙ l .inv .1,
+      subst (λ xs. Stands m xs (c .args .place) (c .in-Ok .after) (c .write .last .buffer)) (sym (take-more ns (l .written) 0 within))
+          (subst (Stands m _ (c .args .place) (c .in-Ok .after)) (sym after) (stands-more m (take (l .written) ns) n (c .args .place) (l .next) (c .in-Ok .after) (l .buffer) (l .inv .2) answer)),
+    )
 
 pub returns-in-Err : need.returns-in-Err
 returns-in-Err g c =

@@ -29,7 +29,7 @@ returns-then-was-bit c =
     let byte = getD bytes (place / 8) 0 in
     let mask : (1 * 2 ^ (place % 8)) % 2 ^ 8 ≡ 2 ^ (place % 8) = one-shl (place % 8) 8 (omega arith) in
     let turned : lowBits 8 (bitXor byte (2 ^ (place % 8))) ≡ set (lowBits 8 byte) (place % 8) (c .args .bit) =
-        lowBits-flip 8 byte (place % 8) (omega arith) ∙ ap (set (lowBits 8 byte) (place % 8)) (other _ _ (c .if-was-bit .taken)) in
+    lowBits-flip 8 byte (place % 8) (omega arith) ∙ ap (set (lowBits 8 byte) (place % 8)) (other _ _ (c .if-was-bit .taken)) in
     set-bitsOf bytes place _ (c .args .bit) (c .pre) (ap (λ m. lowBits 8 (bitXor byte m)) mask ∙ turned)
 
 pub returns-else-was-bit : need.returns-else-was-bit

@@ -15,8 +15,8 @@ returns-then-place-end c =
     let bytes = c .args .buffer .now in
     let new = lowBits (c .args .width) (c .args .word) in
     let short : length (bitsIn bytes) < c .args .place + c .args .width = elim (c .then-place-end .came) [
-      then-place-end·by·then-place-end w ↦ omega (arith, w .if-place-end .taken, c .bit-len-end .ensures)
-    | then-place-end·by·else-place-end·then-end-place w ↦ omega (arith, w .if-place-end .left, w .if-end-place .taken, c .bit-len-end .ensures)
+      | then-place-end·by·then-place-end w ↦ omega (arith, w .if-place-end .taken, c .bit-len-end .ensures)
+      | then-place-end·by·else-place-end·then-end-place w ↦ omega (arith, w .if-place-end .left, w .if-end-place .taken, c .bit-len-end .ensures)
     ] in
     record {
       answer = sym (no-room (c .args .place) (c .args .width) bytes short);
@@ -36,10 +36,12 @@ set-bit-requires c κs = omega (arith, length-bitsIn (c .args .buffer .now))
 pub loop-i-again : need.loop-i-again
 loop-i-again c =
     let old = bitsOf (c .loop-i .buffer) in
-    let within : c .args .place + c .loop-i .i < length old = omega (arith, length-bitsOf (c .loop-i .buffer), length-bitsIn (c .args .buffer .now)) in
-    (ap (overlay (c .args .place + (c .loop-i .i + 1)) (lowBits (c .args .width - (c .loop-i .i + 1)) (c .loop-i .rest / 2))) (c .set-bit .ensures)
-    ∙ laying-more (c .args .place) (c .args .width) (c .loop-i .i) (c .loop-i .rest) old (c .loop-i-test .taken) within
-    ∙ c .loop-i .inv .0, λ k. c .typed .buffer k .fits)
+    let within : c .args .place + c .loop-i .i < length old = omega (arith, length-bitsOf (c .loop-i .buffer), length-bitsIn (c .args .buffer .now)) in (
+      ap (overlay (c .args .place + (c .loop-i .i + 1)) (lowBits (c .args .width - (c .loop-i .i + 1)) (c .loop-i .rest / 2))) (c .set-bit .ensures)
+          ∙ laying-more (c .args .place) (c .args .width) (c .loop-i .i) (c .loop-i .rest) old (c .loop-i-test .taken) within
+          ∙ c .loop-i .inv .0,
+      λ k. c .typed .buffer k .fits,
+    )
 
 pub returns : need.returns
 returns c =
@@ -50,5 +52,5 @@ returns c =
     record {
       answer = sym (room-is (c .args .place) (c .args .width) bytes fits);
       bytes = sym (laid-is (c .args .place) new bytes (omega (arith, length-lowBits (c .args .width) (c .args .word)))
-        ∙ filled (c .loop-i .buffer) (length bytes) (overlay (c .args .place) new (bitsOf bytes)) (c .loop-i .inv .1) (omega arith) whole);
+          ∙ filled (c .loop-i .buffer) (length bytes) (overlay (c .args .place) new (bitsOf bytes)) (c .loop-i .inv .1) (omega arith) whole);
     }

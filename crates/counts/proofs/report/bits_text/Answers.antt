@@ -34,9 +34,10 @@ loop-done-again c =
     let is : eqb (c .in-Ok .bit) 1 ≡ getD bits (l .done) false = ap (λ x. eqb x 1) (t .value-is ∙ ap (λ bs. valueOf (take 1 bs)) (l .inv .1)) ∙ bit-is bits (l .done) within in
     let small : c .bit-char .result < 128 = subst (λ x. x < 128) (sym (c .bit-char .ensures)) (cond-both (eqb (c .in-Ok .bit) 1) 49 48 (λ x. x < 128) (λ _. omega arith) (λ _. omega arith)) in
     let one = c .push .ensures .ascii small ∙ ap (λ x. x ∷ []) (c .bit-char .ensures ∙ ap (λ b. cond b 49 48) is) in
-    let grown = pushed {was = string-bytes (l .text)} (encode (c .bit-char .result)) (l .inv .0) (c .in-Continue-push .was tt) (c .push .ensures .bytes) in
-    (grown ∙ ap (λ x. bitsText (take (l .done) bits) ++ x) one ∙ sym (text-more bits (l .done) within),
-    t .left-is ∙ ap (drop 1) (l .inv .1) ∙ drop-drop 1 (l .done) bits)
+    let grown = pushed {was = string-bytes (l .text)} (encode (c .bit-char .result)) (l .inv .0) (c .in-Continue-push .was tt) (c .push .ensures .bytes) in (
+      grown ∙ ap (λ x. bitsText (take (l .done) bits) ++ x) one ∙ sym (text-more bits (l .done) within),
+      t .left-is ∙ ap (drop 1) (l .inv .1) ∙ drop-drop 1 (l .done) bits,
+    )
 
 pub returns : need.returns
 returns c =

@@ -26,9 +26,10 @@ add-value c =
 
 pub loop-c-again : need.loop-c-again
 loop-c-again c =
-    let is = read (need.at·loop-c-again c .In-Continue-digit) in
-    (sym (digit-goes (c .loop-c .value) (c .args .word .now) (c .loop-c .c-index) (c .loop-c-test .taken) (c .in-Continue-digit .digit) is) ∙ c .loop-c .inv .0,
-    digits-grow (c .loop-c .value) (c .in-Continue-digit .digit) (c .loop-c .c-index) (c .loop-c .inv .1) (digit-below (getD (c .args .word .now) (c .loop-c .c-index) 0) (c .in-Continue-digit .digit) is))
+    let is = read (need.at·loop-c-again c .In-Continue-digit) in (
+      sym (digit-goes (c .loop-c .value) (c .args .word .now) (c .loop-c .c-index) (c .loop-c-test .taken) (c .in-Continue-digit .digit) is) ∙ c .loop-c .inv .0,
+      digits-grow (c .loop-c .value) (c .in-Continue-digit .digit) (c .loop-c .c-index) (c .loop-c .inv .1) (digit-below (getD (c .args .word .now) (c .loop-c .c-index) 0) (c .in-Continue-digit .digit) is),
+    )
 
 pub returns-in-Break-digit : need.returns-in-Break-digit
 returns-in-Break-digit c =

@@ -54,11 +54,14 @@ loop-turn-again c =
     let l = c .loop-turn in
     let done = lowBits (l .spelled .size) (l .spelled .word) in
     let is = left (l .turn) (code .later) (l .width) (l .rest) done _ (c .loop-turn-test .taken) (l .inv .0) in
-    let turns : 32 - (l .turn + 1) ≡ 31 - l .turn = omega arith in
-    (ap (λ bs. bs ++ groups (32 - (l .turn + 1)) (code .later) (code .later) (l .rest / 2 ^ (l .width))) (grown (need.at·loop-turn-again c .After-then-spelled))
-    ∙ ap (λ t. (done ++ (lowBits (l .width) (l .rest) ++ (more (l .width) (l .rest) ∷ []))) ++ groups t (code .later) (code .later) (l .rest / 2 ^ (l .width))) turns
-    ∙ spelled-more (31 - l .turn) (code .first) (code .later) (c .args .number) (l .width) (l .rest) done is (lt-ltb 0 (l .rest / 2 ^ (l .width)) (omega arith)),
-    c .then-spelled .ensures .below, omega arith, omega arith)
+    let turns : 32 - (l .turn + 1) ≡ 31 - l .turn = omega arith in (
+      ap (λ bs. bs ++ groups (32 - (l .turn + 1)) (code .later) (code .later) (l .rest / 2 ^ (l .width))) (grown (need.at·loop-turn-again c .After-then-spelled))
+          ∙ ap (λ t. (done ++ (lowBits (l .width) (l .rest) ++ (more (l .width) (l .rest) ∷ []))) ++ groups t (code .later) (code .later) (l .rest / 2 ^ (l .width))) turns
+          ∙ spelled-more (31 - l .turn) (code .first) (code .later) (c .args .number) (l .width) (l .rest) done is (lt-ltb 0 (l .rest / 2 ^ (l .width)) (omega arith)),
+      c .then-spelled .ensures .below,
+      omega arith,
+      omega arith,
+    )
 
 pub returns : need.returns
 returns c =

@@ -78,7 +78,7 @@ returns-then-group-eq0 c =
     let t = turn (need.at·returns-then-group-eq0 c .After-group-in-group) in
     let l = c .loop-turn in
     let is = zero-group (31 - l .turn) (c .args .self .now .later) (l .width) (l .seen) (l .value) (l .reader .place - c .args .place) (c .in-Continue-word .word) (bitsLeft (l .reader)) (t .taken .enough) (t .taken .value-is)
-        (omega (arith, t .raised, c .from .ensures, c .if-value-from .left)) (c .if-word-width-eq0 .taken) (c .if-seen-gt0 .taken) (sym (c .group-in-group .ensures) ∙ c .if-group-eq0 .taken) in
+    (omega (arith, t .raised, c .from .ensures, c .if-value-from .left)) (c .if-word-width-eq0 .taken) (c .if-seen-gt0 .taken) (sym (c .group-in-group .ensures) ∙ c .if-group-eq0 .taken) in
     sym (ap (answerOf (c .args .place)) (sym (t .here) ∙ is))
 
 pub returns-then-word-width-eq0 : need.returns-then-word-width-eq0
@@ -87,7 +87,7 @@ returns-then-word-width-eq0 c =
     let l = c .loop-turn in
     let used = l .reader .place - c .args .place in
     let is = last-read (31 - l .turn) (c .args .self .now .later) (l .width) (l .seen) (l .value) used (c .in-Continue-word .word) (bitsLeft (l .reader)) (t .taken .enough) (t .taken .value-is)
-        (omega (arith, t .raised, c .from .ensures, c .if-value-from .left)) (c .if-word-width-eq0 .taken) (λ h. omega (arith, h, c .else-seen-gt0 .either, c .group-in-group .ensures)) in
+    (omega (arith, t .raised, c .from .ensures, c .if-value-from .left)) (c .if-word-width-eq0 .taken) (λ h. omega (arith, h, c .else-seen-gt0 .either, c .group-in-group .ensures)) in
     let next : c .place .result ≡ c .args .place + (used + (l .width + 1)) = omega (arith, c .place .ensures, t .taken .place-is) in
     ap₂ (λ n p. let x : Counted = record { number = n; next = p } in Ok x) (ap (λ g. l .value + g) (t .raised)) next ∙ sym (ap (answerOf (c .args .place)) (sym (t .here) ∙ is))
 
@@ -96,7 +96,7 @@ returns-then-seen-ge32 c =
     let t = turn (need.at·returns-then-seen-ge32 c .After-group-in-group) in
     let l = c .loop-turn in
     let is = too-long (31 - l .turn) (c .args .self .now .later) (l .width) (l .seen) (l .value) (l .reader .place - c .args .place) (c .in-Continue-word .word) (bitsLeft (l .reader)) (t .taken .enough) (t .taken .value-is)
-        (omega (arith, t .raised, c .from .ensures, c .if-value-from .left)) (c .if-word-width-eq0 .left) (omega arith) in
+    (omega (arith, t .raised, c .from .ensures, c .if-value-from .left)) (c .if-word-width-eq0 .left) (omega arith) in
     sym (ap (answerOf (c .args .place)) (sym (t .here) ∙ is))
 
 pub loop-turn-again : need.loop-turn-again
@@ -108,9 +108,15 @@ loop-turn-again c =
     let fits : l .value + (c .in-Continue-word .word % 2 ^ (l .width)) * 2 ^ (l .seen) ≤ greatest = omega (arith, t .raised, c .from .ensures, c .if-value-from .left) in
     let is = goes-on (31 - l .turn) later (l .width) (l .seen) (l .value) used (c .in-Continue-word .word) (bitsLeft (l .reader)) (t .taken .enough) (t .taken .value-is) fits (c .if-word-width-eq0 .left) (omega arith) in
     let turns : 32 - (l .turn + 1) ≡ 31 - l .turn = omega arith in
-    let taken : c .take .last .self .place - c .args .place ≡ used + (l .width + 1) = omega (arith, t .taken .place-is) in
-    ((λ i. readGroups (turns i) later later (l .seen + l .width) (l .value + t .raised i) (taken i) (t .taken .left-is i)) ∙ sym is ∙ t .here,
-    t .taken .from-is ∙ l .inv .1, omega (arith, t .taken .place-is), omega arith, omega arith, omega arith, omega (arith, t .raised, fits))
+    let taken : c .take .last .self .place - c .args .place ≡ used + (l .width + 1) = omega (arith, t .taken .place-is) in (
+      (λ i. readGroups (turns i) later later (l .seen + l .width) (l .value + t .raised i) (taken i) (t .taken .left-is i)) ∙ sym is ∙ t .here,
+      t .taken .from-is ∙ l .inv .1,
+      omega (arith, t .taken .place-is),
+      omega arith,
+      omega arith,
+      omega arith,
+      omega (arith, t .raised, fits),
+    )
 
 pub returns : need.returns
 returns c =

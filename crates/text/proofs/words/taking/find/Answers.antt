@@ -1,7 +1,7 @@
 use Prim.Native.Nat.{_+_}
 use native.Mathlib.Omega.{arith}
 use Rattle.text.proofs.Marks.{upTo-goes, upTo-stops, upTo-none}
-use Rattle.text.proofs.words.find.Needs as need
+use Rattle.text.proofs.words.taking.find.Needs as need
 
 pub loop-end-again : need.loop-end-again
 loop-end-again c = (omega (arith, upTo-goes (c .args .mark) (c .args .bytes .now) (c .loop-end .end) (omega arith) (c .if-bytes-end .taken), c .loop-end .inv .0), omega arith)
