@@ -4,7 +4,6 @@ use mathlib.Core.List.{List, [], _∷_, _++_}
 use mathlib.Core.Path.{_≡_}
 use Prim.Native.Nat.{ℕ, _+_, _-_, _^_}
 use lib.Dec.{eqb}
-use lib.ListN.{take}
 use Rattle.std.specs.Of.Vec.{vec-items}
 use Rattle.std.specs.declared.vec.Vec.{Vec}
 use Rattle.std.specs.declared.alloc.Global.{Global}
@@ -63,7 +62,7 @@ joinedAsked code (Err p) = Err p
 
 abbrev pub askedBy : List ℕ → Result Asked Place
 askedBy text =
-    let lines = linesOf (take 4096 text) in
+    let lines = linesOf text in
     elim (codeAsked (firstLine lines 0)) [ Ok code ↦ joinedAsked code (countsAsked [] (afterFirst lines) (numberAfter lines 0)) | Err p ↦ Err p ]
 
 -- an answer tells just that, unless memory is wanting

@@ -1,4 +1,4 @@
-ghost use Prim.Native.Nat.{_+_, _≤_};
+ghost use Prim.Native.Nat.{_+_, _^_, _≤_, _<_};
 ghost use denote.Ref.{now as held};
 ghost use lib.ListN.{length};
 
@@ -10,7 +10,7 @@ pub struct Words<'a> {
     line: &'a [u8],
     number: usize,
     at: usize,
-    ghost short: { length (held line) ≤ 4096 },
+    ghost short: { length (held line) < 2 ^ 63 },
     ghost inside: { at ≤ length (held line) + 1 },
-    ghost few: { number ≤ 4097 },
+    ghost few: { number ≤ 2 ^ 63 },
 }

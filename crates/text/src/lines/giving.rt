@@ -1,5 +1,4 @@
 ghost use mathlib.Core.Path.{_≡_};
-ghost use lib.ListN.{take};
 ghost use Rattle.text.specs.Lines.{linesOf, firstLine, afterFirst, numberAfter, noLines};
 ghost use Rattle.text.specs.Views.{wordsAt, linesLeft, linesGiven};
 use crate::lines::Lines;
@@ -8,12 +7,11 @@ use crate::words::taking::find;
 
 impl<'a> Lines<'a> {
     pub fn new(text: &'a [u8]) -> Lines<'a>
-        ensures lines { λ r. ⌜ linesLeft r ≡ linesOf (take 4096 (now (text .entry))) ⌝ }
+        ensures lines { λ r. ⌜ linesLeft r ≡ linesOf (now (text .entry)) ⌝ }
         ensures given { λ r. ⌜ linesGiven r ≡ 0 ⌝ }
     {
-        let size = text.len().min(4096);
         Lines {
-            rest: &text[0..size],
+            rest: text,
             number: 0,
         }
     }

@@ -1,5 +1,5 @@
 ghost use mathlib.Core.Path.{_≡_};
-ghost use Prim.Native.Nat.{_+_, _≤_};
+ghost use Prim.Native.Nat.{_+_, _^_, _≤_, _<_};
 ghost use lib.ListN.{length, drop};
 ghost use Rattle.std.specs.Results.{isOk};
 ghost use Rattle.text.specs.Lines.{upTo, cursor, nextPlace, numberAt, letterAt, isEnd, past};
@@ -10,8 +10,8 @@ use crate::words::Words;
 
 impl<'a> Words<'a> {
     pub(crate) fn new(line: &'a [u8], number: usize) -> Words<'a>
-        requires short { ⌜ length (now line) ≤ 4096 ⌝ }
-        requires few { ⌜ number ≤ 4097 ⌝ }
+        requires short { ⌜ length (now line) < 2 ^ 63 ⌝ }
+        requires few { ⌜ number ≤ 2 ^ 63 ⌝ }
         ensures { λ r. ⌜ wordsAt r ≡ cursor (now (line .entry)) number 0 ⌝ }
     {
         Words {
