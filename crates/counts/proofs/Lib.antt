@@ -1,1 +1,2 @@
 pub mod Digits01
+pub mod Listing

@@ -16,8 +16,9 @@ bitsText bits = map (λ b. cond b 49 48) bits
 abbrev pub bitsBetween : ℕ → ℕ → List ℕ → List Bool
 bitsBetween from to bytes = take (to - from) (drop from (bitsIn bytes))
 
-abbrev pub countLine : ℕ → ℕ → ℕ → List ℕ → List ℕ
-countLine count from to bytes = codes "count " ++ (hexText count ++ (codes " bits " ++ (bitsText (bitsBetween from to bytes) ++ (codes " place " ++ decimal to))))
+-- a count, its bits, and the place after them
+abbrev pub countLine : ℕ → List Bool → ℕ → List ℕ
+countLine count bits place = codes "count " ++ (hexText count ++ (codes " bits " ++ (bitsText bits ++ (codes " place " ++ decimal place))))
 
 abbrev pub readLine : ℕ → ℕ → List ℕ
 readLine count place = codes "read " ++ (hexText count ++ (codes " place " ++ decimal place))

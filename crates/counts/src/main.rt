@@ -1,4 +1,5 @@
 // Writes counts in a code and reads them back, so that codes can be compared.
+mod output;
 mod report;
 mod request;
 #[cfg(test)]

@@ -39,7 +39,7 @@ pub fn count_line(
     to: usize,
     buffer: &[u8],
 ) -> Result<String, AllocError>
-    ensures { λ r. ⌜ made r (λ s. string-bytes s ≡ countLine count from to (now (buffer .entry))) ⌝ }
+    ensures { λ r. ⌜ made r (λ s. string-bytes s ≡ countLine count (bitsBetween from to (now (buffer .entry))) to) ⌝ }
 {
     let digits = hex::text(heap, count)?;
     let bits = bits_text(heap, from, to, buffer)?;
