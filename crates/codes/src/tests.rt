@@ -2,6 +2,7 @@ use crate::chunked::Chunked;
 use crate::chunked::ChunkedCode;
 use crate::fixed::Fixed;
 use crate::fixed::FixedCode;
+use crate::refusal::MakeRefusal;
 use crate::series::write_series;
 use rules::count::CountCode;
 use rules::count::CountFault;
@@ -40,7 +41,10 @@ fn lengths_and_widths() -> Result<(), Fail> {
     }
     check(Chunked::new(1, 6).is_ok() && Chunked::new(6, 1).is_ok())?;
     check(Fixed::new(3).is_err() && Fixed::new(33).is_err())?;
-    check(Fixed::new(4).is_ok() && Fixed::new(32).is_ok())
+    check(Fixed::new(4).is_ok() && Fixed::new(32).is_ok())?;
+    check_eq(MakeRefusal::OutOfRange.number(), 1)?;
+    check_eq(WriteRefusal::AboveTop.number(), 6)?;
+    check_eq(WriteRefusal::NoRoom.number(), 7)
 }
 
 #[test]

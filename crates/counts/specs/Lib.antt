@@ -1,3 +1,4 @@
 pub mod Output
+pub mod Reply
 pub mod Report
 pub mod Request

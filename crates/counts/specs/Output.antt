@@ -24,10 +24,13 @@ refusedText None = []
 refusedText (Some e) = refusedLine (writingNumber e) ++ (10 ∷ [])
 
 -- the counts written, a refusal, the bytes that their bits fill, the counts read back, and the totals
-abbrev pub outputOf : Meaning → List ℕ → List ℕ
-outputOf m counts =
-    let zeros = replicate 1024 0 in
-    let s = seriesFrom m 0 counts 0 zeros in
+abbrev pub outputIn : Meaning → List ℕ → List ℕ → List ℕ
+outputIn m counts bytes =
+    let s = seriesFrom m 0 counts 0 bytes in
     let written = take (s .written) counts in
-    let bytes = take ((s .next + 7) / 8) (seriesBytes m counts 0 zeros) in
-    countLines m written 0 ++ (refusedText (s .refusal) ++ (bytesLine bytes ++ (10 ∷ (readLines m written 0 ++ (totalLine (s .written) (s .next) ++ (10 ∷ []))))))
+    let filled = take ((s .next + 7) / 8) (seriesBytes m counts 0 bytes) in
+    countLines m written 0 ++ refusedText (s .refusal) ++ bytesLine filled ++ (10 ∷ []) ++ readLines m written 0 ++ totalLine (s .written) (s .next) ++ (10 ∷ [])
+
+-- over a buffer of 1,024 zeros
+abbrev pub outputOf : Meaning → List ℕ → List ℕ
+outputOf m counts = outputIn m counts (replicate 1024 0)

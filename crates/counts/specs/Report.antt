@@ -1,4 +1,5 @@
--- The lines that `counts` prints. Counts are in hexadecimal, as they came; places, sizes and refusals are in decimal.
+-- The lines that `counts` prints. A count is in hexadecimal without leading zeros; how many there are, places, sizes and
+-- refusals are in decimal.
 use mathlib.Core.Bool.{Bool, cond}
 use mathlib.Core.List.{List, [], _∷_, _++_, map}
 use Prim.Native.Nat.{ℕ, _-_}

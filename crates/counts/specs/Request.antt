@@ -51,7 +51,6 @@ TellsCounts (Ok v) asked = asked ≡ Ok (vec-items v)
 TellsCounts (Err (BadWord p)) asked = asked ≡ Err p
 TellsCounts (Err Memory) asked = Unit {0}
 
--- what a text asks for, or the place of its first bad word
 pub record Asked : Type 0 where
   pub code : CodeAsked
   pub counts : List ℕ
@@ -60,6 +59,7 @@ abbrev pub joinedAsked : CodeAsked → Result (List ℕ) Place → Result Asked 
 joinedAsked code (Ok counts) = Ok (record { code = code; counts = counts })
 joinedAsked code (Err p) = Err p
 
+-- what a text asks for, or the place of its first bad word
 abbrev pub askedBy : List ℕ → Result Asked Place
 askedBy text =
     let lines = linesOf text in

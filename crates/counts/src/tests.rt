@@ -1,3 +1,4 @@
+use crate::reply::reply;
 use crate::report;
 use crate::request::CodeAsked;
 use crate::request::ParseFault;
@@ -60,4 +61,28 @@ fn lines(rt: LibcRuntime) -> Result<(), Fail> {
     check(report::total_line(heap, 5, 75)?.as_str() == "counts 5 bits 75")?;
     check(report::refused_line(heap, 7)?.as_str() == "refused 7")?;
     check(report::bad_line(heap, Place { line: 1, column: 3 })?.as_str() == "bad 1 3")
+}
+
+#[test]
+fn replies(rt: LibcRuntime) -> Result<(), Fail> {
+    let heap = rt.alloc();
+    check(reply(heap, b"K 7 1\n3")?.as_str() == "refused 1\n")?;
+    check(reply(heap, b"K 2\n3")?.as_str() == "bad 1 5\n")?;
+    check(reply(heap, b"F 4")?.as_str() == "bytes 0 \ncounts 0 bits 0\n")?;
+    let fixed =
+        "count F bits 1111 place 4\nrefused 6\nbytes 1 0F\nread F place 4\ncounts 1 bits 4\n";
+    check(reply(heap, b"F 4\nF\n10\n1\n")?.as_str() == fixed)
+}
+
+// 128 counts of 64 bits fill the buffer.
+#[test]
+fn full_buffer(rt: LibcRuntime) -> Result<(), Fail> {
+    let heap = rt.alloc();
+    let mut text = String::from_str(heap, "K 1 1\n")?;
+    for _ in 0..129 {
+        text.push_str("FFFFFFFF\n")?;
+    }
+    let printed = reply(heap, text.as_bytes())?;
+    check(printed.as_str().ends_with("counts 128 bits 8192\n"))?;
+    check(printed.as_str().find("refused 7\n").is_some())
 }

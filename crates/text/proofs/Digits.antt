@@ -15,7 +15,7 @@ use Rattle.std.proofs.shelf.Tests.{cond-true, cond-false, cond-both, and-from, 
 use Rattle.std.proofs.shelf.Ways.{tells}
 use Rattle.std.specs.declared.option.Option.{Option}
 use Rattle.std.specs.declared.option.Option.the-variants.{Some, None}
-use Rattle.text.specs.Hex.{within, digitOf, digitsAfter, atMost, numberIn, digitChar, hexDigits, widthFrom, hexWidth, hexText, hexBytes}
+use Rattle.text.specs.Hex.{between, digitOf, digitsAfter, atMost, numberIn, digitChar, hexDigits, widthFrom, hexWidth, hexText, hexBytes}
 
 some-same : (x y : ℕ) → Some x ≡ Some y → x ≡ y
 some-same x y e = cc
@@ -24,16 +24,16 @@ none≢some : (x : ℕ) → None ≡ Some x → ⊥
 none≢some x e = let z : _≡_ {A = ℕ} 0 1 = cc in omega arith
 
 pub digit-below : (c d : ℕ) → digitOf c ≡ Some d → d < 16
-digit-below c d e = go (within 48 57 c) refl (within 65 70 c) refl
+digit-below c d e = go (between 48 57 c) refl (between 65 70 c) refl
   where
-    go : (a : Bool) → within 48 57 c ≡ a → (b : Bool) → within 65 70 c ≡ b → d < 16
+    go : (a : Bool) → between 48 57 c ≡ a → (b : Bool) → between 65 70 c ≡ b → d < 16
     go true p b q =
         let h = and-parts (leb 48 c) (leb c 57) p in
-        omega (arith, leb-true 48 c (h .0), leb-true c 57 (h .1), some-same _ _ (sym e ∙ cond-true (within 48 57 c) _ _ p))
+        omega (arith, leb-true 48 c (h .0), leb-true c 57 (h .1), some-same _ _ (sym e ∙ cond-true (between 48 57 c) _ _ p))
     go false p true q =
         let h = and-parts (leb 65 c) (leb c 70) q in
-        omega (arith, leb-true 65 c (h .0), leb-true c 70 (h .1), some-same _ _ (sym e ∙ cond-false (within 48 57 c) _ _ p ∙ cond-true (within 65 70 c) _ _ q))
-    go false p false q = absurd (none≢some d (sym (cond-false (within 48 57 c) _ _ p ∙ cond-false (within 65 70 c) _ _ q) ∙ e))
+        omega (arith, leb-true 65 c (h .0), leb-true c 70 (h .1), some-same _ _ (sym e ∙ cond-false (between 48 57 c) _ _ p ∙ cond-true (between 65 70 c) _ _ q))
+    go false p false q = absurd (none≢some d (sym (cond-false (between 48 57 c) _ _ p ∙ cond-false (between 65 70 c) _ _ q) ∙ e))
 
 -- one digit more
 module _ (value : ℕ) (word : List ℕ) (i : ℕ) (h : i < length word) where
@@ -68,7 +68,7 @@ digits-fit value d i below small few =
     omega (arith, digits-grow value d i below small, sixteen (i + 1), pow-mono {i = 4 * (i + 1)} {j = 64} whole)
 
 pub number-is : (most : ℕ) (word : List ℕ) → 1 ≤ length word → length word ≤ 16 → numberIn most word ≡ atMost most (digitsAfter 0 word)
-number-is most word least few = cond-true (within 1 16 (length word)) _ _ (and-from (leb 1 (length word)) (leb (length word) 16) (le-leb 1 (length word) least) (le-leb (length word) 16 few))
+number-is most word least few = cond-true (between 1 16 (length word)) _ _ (and-from (leb 1 (length word)) (leb (length word) 16) (le-leb 1 (length word) least) (le-leb (length word) 16 few))
 
 digit-char-below : (d : ℕ) → d < 16 → digitChar d < 128
 digit-char-below d h = cond-both (ltb d 10) (48 + d) (55 + d) (λ x. x < 128) (λ _. omega arith) (λ _. omega arith)

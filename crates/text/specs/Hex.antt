@@ -10,12 +10,12 @@ use Rattle.std.specs.declared.option.Option.the-variants.{Some, None}
 
 -- reading
 
-abbrev pub within : ℕ → ℕ → ℕ → Bool
-within least most n = leb least n && leb n most
+abbrev pub between : ℕ → ℕ → ℕ → Bool
+between least most n = leb least n && leb n most
 
 -- the value of a digit 0 to 9 or A to F
 abbrev pub digitOf : ℕ → Option ℕ
-digitOf c = cond (within 48 57 c) (Some (c - 48)) (cond (within 65 70 c) (Some (c - 55)) None)
+digitOf c = cond (between 48 57 c) (Some (c - 48)) (cond (between 65 70 c) (Some (c - 55)) None)
 
 -- the number of the digits, after those that came to `value`
 abbrev pub digitsAfter : ℕ → List ℕ → Option ℕ
@@ -28,7 +28,7 @@ atMost most None = None
 
 -- a number is 1 to 16 digits, and not above `most`
 abbrev pub numberIn : ℕ → List ℕ → Option ℕ
-numberIn most cs = cond (within 1 16 (length cs)) (atMost most (digitsAfter 0 cs)) None
+numberIn most cs = cond (between 1 16 (length cs)) (atMost most (digitsAfter 0 cs)) None
 
 -- writing
 

@@ -16,11 +16,12 @@ abbrev pub upTo : ℕ → List ℕ → List ℕ
 upTo mark [] = []
 upTo mark (c ∷ cs) = cond (eqb c mark) [] (c ∷ upTo mark cs)
 
--- the lines of a text
+-- a byte in front of the first line
 abbrev pub onto : ℕ → List (List ℕ) → List (List ℕ)
 onto c [] = (c ∷ []) ∷ []
 onto c (l ∷ ls) = (c ∷ l) ∷ ls
 
+-- the lines of a text
 abbrev pub linesOf : List ℕ → List (List ℕ)
 linesOf [] = []
 linesOf (c ∷ cs) = cond (eqb c 10) ([] ∷ linesOf cs) (onto c (linesOf cs))
@@ -73,18 +74,19 @@ abbrev pub orBad : Place → Option ℕ → Result ℕ Place
 orBad place (Some n) = Ok n
 orBad place None = Err place
 
--- the number at an index of a line, or the place of what is no number or missing
+-- the number at the cursor, or the place of what is no number or missing
 abbrev pub numberAt : ℕ → Cursor → Result ℕ Place
 numberAt most c = cond (there (c .line) (c .at))
     (orBad (nextPlace c) (numberIn most (wordAt (c .line) (c .at))))
     (Err (nextPlace c))
 
--- the one letter at an index of a line
+-- the byte of a word that has just one
 abbrev pub letterOf : List ℕ → Option ℕ
 letterOf [] = None
 letterOf (c ∷ []) = Some c
 letterOf (c ∷ d ∷ cs) = None
 
+-- the one letter at the cursor, or the place of what is no letter or missing
 abbrev pub letterAt : Cursor → Result ℕ Place
 letterAt c = cond (there (c .line) (c .at))
     (orBad (nextPlace c) (letterOf (wordAt (c .line) (c .at))))

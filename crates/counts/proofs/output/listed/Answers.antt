@@ -39,15 +39,17 @@ loop-count-again g c =
     let line = c .as-str .ensures .value ∙ c .in-Continue-count-line .ensures tt in
     let read = c .as-str-in-loop-count .ensures .value ∙ c .in-Continue-read-line .ensures tt ∙ ap (λ k. readLine k next) (c .from .ensures ∙ ap (λ x. x .number) same) in
     let written = c .in-Continue-add-line .ensures tt ∙ ap (λ x. string-bytes (l .written) ++ x ++ 10 ∷ []) line in
-    let reads = c .in-Continue-add-line-2 .ensures tt ∙ ap (λ x. string-bytes (l .reads) ++ x ++ 10 ∷ []) read in
-    (ap (λ x. x ++ countLines m (drop (i + 1) ns) next) written ∙ counts-more m ns i (l .place) next bytes (omega arith) stands (string-bytes (l .written)) ∙ l .inv .0,
-    ap (λ x. x ++ readLines m (drop (i + 1) ns) next) reads ∙ reads-more m ns i (l .place) next bytes (omega arith) stands (string-bytes (l .reads)) ∙ l .inv .1,
-    subst (λ p. Back m (drop (i + 1) ns) p bytes) far (n .back))
+    let reads = c .in-Continue-add-line-2 .ensures tt ∙ ap (λ x. string-bytes (l .reads) ++ x ++ 10 ∷ []) read in (
+      ap (λ x. x ++ countLines m (drop (i + 1) ns) next) written ∙ counts-more m ns i (l .place) next bytes (omega arith) stands (string-bytes (l .written)) ∙ l .inv .0,
+      ap (λ x. x ++ readLines m (drop (i + 1) ns) next) reads ∙ reads-more m ns i (l .place) next bytes (omega arith) stands (string-bytes (l .reads)) ∙ l .inv .1,
+      subst (λ p. Back m (drop (i + 1) ns) p bytes) far (n .back),
+    )
 
 pub returns : need.returns
 returns g c =
     let m = g .C·CountCode .meaning (c .args .code .now) in
     let l = c .loop-count in
-    let none = drop-all (l .count-index) (c .args .counts .now) (c .loop-count-test .left) in
-    (sym (append-nil (string-bytes (l .written))) ∙ sym (ap (λ x. string-bytes (l .written) ++ countLines m x (l .place)) none) ∙ l .inv .0,
-    sym (append-nil (string-bytes (l .reads))) ∙ sym (ap (λ x. string-bytes (l .reads) ++ readLines m x (l .place)) none) ∙ l .inv .1)
+    let none = drop-all (l .count-index) (c .args .counts .now) (c .loop-count-test .left) in (
+      sym (append-nil (string-bytes (l .written))) ∙ sym (ap (λ x. string-bytes (l .written) ++ countLines m x (l .place)) none) ∙ l .inv .0,
+      sym (append-nil (string-bytes (l .reads))) ∙ sym (ap (λ x. string-bytes (l .reads) ++ readLines m x (l .place)) none) ∙ l .inv .1,
+    )
