@@ -4,14 +4,14 @@ use mathlib.Core.List.{List, [], _∷_, _++_, append-assoc}
 use mathlib.Core.Logic.{_⊎_, inl, inr}
 use mathlib.Core.Path.{_≡_, refl, sym, ap, ap₂, subst, _∙_}
 use Prim.Native.Nat.{ℕ, zero, suc, _+_, _-_, _*_, _/_, _%_, _^_, _≤_, _<_}
-use native.Mathlib.Nat.{div-add-mod', mod-eq-of-lt, mul-le-mul-right, pow-succ'}
+use native.Mathlib.Nat.{div-add-mod', mul-le-mul-right}
 use native.Mathlib.Omega.{arith}
 use lib.Dec.{leb, ltb, eqb}
 use lib.ListN.{length, getD, take, drop, length-append, length-take, take-append-drop}
-use lib.Pow.{pow-pos, pow-mono, pow-add}
+use lib.Pow.{pow-mono, pow-add}
 use lib.Seq.{drop-drop, length-take-le, take-at, drop-at, getD-at, take-append-add}
 use Rattle.std.proofs.shelf.Bits.{mod-low, shr-below, shr-high, shr-le}
-use Rattle.std.proofs.shelf.Tests.{cond-true, cond-false, le-leb, lt-leb, leb-true, leb-false, lt-ltb, le-ltb, ltb-true, ltb-false, eqb-true, eqb-false, ne-eqb, cases-lt, and-left, and-right, and-cases, and-from, eq-eqb}
+use Rattle.std.proofs.shelf.Tests.{cond-true, cond-false, le-leb, lt-leb, leb-true, leb-false, lt-ltb, le-ltb, ltb-true, ltb-false, eqb-false, ne-eqb, cases-lt, and-left, and-right, and-cases, and-from, eq-eqb}
 use Rattle.std.proofs.shelf.Lists.{drop-more, take-more}
 use Rattle.rules.specs.Bits.{bit, lowBits, valueOf}
 use Rattle.rules.specs.Meaning.{Reading, number, cut, bad, Begins, Sound}
@@ -247,12 +247,6 @@ groups-of turns later w q xs b long e =
     ∙ ap (λ c. xs ++ (c ∷ cond c (groups turns later later q) [])) e
 
 module _ (turns later w seen value used : ℕ) (bs : List Bool) (n u : ℕ) (lw : 1 ≤ w) (enough : w + 1 ≤ length bs) where
-  front : List Bool
-  front = take w bs
-
-  back : List Bool
-  back = drop (w + 1) bs
-
   length-front : length (take w bs) ≡ w
   length-front = length-take-le w bs (omega arith)
 

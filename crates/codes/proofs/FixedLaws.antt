@@ -1,8 +1,8 @@
 -- The fixed code keeps the laws.
-use mathlib.Core.Bool.{Bool, true, false, cond}
-use mathlib.Core.List.{List, [], _∷_, _++_}
-use mathlib.Core.Path.{_≡_, refl, sym, ap, ap₂, subst, _∙_}
-use Prim.Native.Nat.{ℕ, _+_, _-_, _%_, _^_, _≤_, _<_}
+use mathlib.Core.Bool.{Bool, true, false}
+use mathlib.Core.List.{List, _++_}
+use mathlib.Core.Path.{_≡_, refl, sym, ap, ap₂, _∙_}
+use Prim.Native.Nat.{ℕ, _-_, _^_, _≤_, _<_}
 use native.Mathlib.Nat.{mod-eq-of-lt}
 use native.Mathlib.Omega.{arith}
 use lib.Dec.{leb}
@@ -11,7 +11,7 @@ use lib.Pow.{pow-pos, pow-mono}
 use lib.Seq.{length-take-le, take-at}
 use Rattle.std.proofs.shelf.Tests.{cond-true, cond-false, le-leb, lt-leb, leb-true}
 use Rattle.rules.specs.Bits.{lowBits, valueOf}
-use Rattle.rules.specs.Meaning.{Reading, number, cut, bad, Begins, Sound}
+use Rattle.rules.specs.Meaning.{number, cut, Begins, Sound}
 use Rattle.rules.proofs.Bits.{length-lowBits, lowBits-valueOf, valueOf-lowBits, valueOf-take-below}
 use Rattle.codes.specs.Fixed.{fixedReading, fixedMeaning}
 

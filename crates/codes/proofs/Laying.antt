@@ -1,11 +1,10 @@
 -- Bits laid over a buffer's one by one.
 use mathlib.Core.Bool.{Bool}
-use mathlib.Core.List.{List, []}
+use mathlib.Core.List.{List}
 use mathlib.Core.Path.{_≡_, sym, ap, _∙_}
-use Prim.Native.Nat.{ℕ, suc, _+_, _-_, _*_, _/_, _≤_, _<_}
+use Prim.Native.Nat.{ℕ, suc, _+_, _-_, _/_, _≤_, _<_}
 use native.Mathlib.Omega.{arith}
 use lib.ListN.{length, getD, set}
-use Rattle.std.specs.shelf.Lists.{All}
 use Rattle.std.proofs.shelf.Elements.{all-from-getD}
 use Rattle.rules.specs.Bits.{isOdd, lowBits, bitsOf, bytesOf, overlay}
 use Rattle.rules.proofs.Bits.{overlay-none, overlay-more, bytesOf-bitsOf}

@@ -1,17 +1,16 @@
 -- The groups of a number, gathered in one word.
-use mathlib.Core.Bool.{Bool, true, false, cond}
+use mathlib.Core.Bool.{Bool, true, false}
 use mathlib.Core.List.{List, [], _∷_, _++_, append-assoc, append-nil}
-use mathlib.Core.Path.{_≡_, refl, sym, ap, subst, _∙_}
+use mathlib.Core.Path.{_≡_, refl, sym, ap, _∙_}
 use Prim.Native.Nat.{ℕ, suc, _+_, _*_, _/_, _%_, _^_, _≤_, _<_}
-use native.Mathlib.Nat.{add-comm, div-add-mod', pow-succ'}
+use native.Mathlib.Nat.{add-comm, div-add-mod'}
 use native.Mathlib.Omega.{arith}
 use lib.Arith.{digits-lt}
-use lib.Dec.{ltb}
 use lib.ListN.{length, length-append}
-use lib.Pow.{pow-add, pow-mono, pow-pos}
+use lib.Pow.{pow-add, pow-pos}
 use Rattle.std.proofs.shelf.Bits.{shl-whole, mod-below}
 use Rattle.rules.specs.Bits.{bit, lowBits}
-use Rattle.rules.proofs.Bits.{length-lowBits, lowBits-join, lowBits-low}
+use Rattle.rules.proofs.Bits.{lowBits-join, lowBits-low}
 use Rattle.codes.specs.Chunked.{greatest, more, groups}
 use Rattle.codes.proofs.ChunkedLaws.{short, tail, length-groups}
 

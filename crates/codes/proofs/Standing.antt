@@ -1,22 +1,21 @@
 -- Counts that stand one after the other in a buffer, and how they are read back.
 use mathlib.Core.List.{List, [], _∷_, _++_, append-assoc, append-nil}
-use mathlib.Core.Path.{_≡_, refl, sym, ap, ap₂, subst, _∙_}
-use Prim.Native.Nat.{ℕ, _+_, _-_, _≤_, _<_}
+use mathlib.Core.Path.{_≡_, refl, sym, ap, subst, _∙_}
+use Prim.Native.Nat.{ℕ, _+_, _≤_}
 use native.Mathlib.Omega.{arith}
-use lib.ListN.{length, getD, take, drop, length-append, length-take, length-drop, take-append-drop}
-use lib.Seq.{drop-at, drop-append-le, drop-drop, length-take-le, take-at}
+use lib.ListN.{length, take, drop, length-append, length-take, take-append-drop}
+use lib.Seq.{drop-at, drop-append-le, drop-drop, length-take-le}
 use Rattle.std.proofs.shelf.Elements.{all-push}
-use Rattle.std.proofs.shelf.Lists.{drop-more, drop-take, drop-all, length-push, take-more}
-use Rattle.std.specs.declared.option.Option.the-variants.{Some, None}
+use Rattle.std.proofs.shelf.Lists.{drop-take, drop-all}
+use Rattle.std.specs.declared.option.Option.the-variants.{Some}
 use Rattle.std.specs.declared.result.Result.the-variants.{Ok, Err}
 use Rattle.std.specs.shelf.Lists.{All, joined}
 use Rattle.rules.specs.declared.count.WriteRefusal.{WriteRefusal}
 use Rattle.rules.specs.Bits.{bitsIn}
 use Rattle.rules.specs.Calls.{answerOf, writeAnswer, bytesWritten, readAnswer}
 use Rattle.rules.specs.Meaning.{Meaning, Sound, number}
-use Rattle.rules.proofs.Calls.{Wrote, wrote}
+use Rattle.rules.proofs.Calls.{wrote}
 use Rattle.codes.specs.Series.{seriesFrom, seriesBytes, ReadBack}
-use Rattle.codes.specs.declared.series.Series.{Series}
 
 -- the bits of the counts fill the buffer from the place to `end`
 pub record Stands (m : Meaning) (ns : List ℕ) (place end : ℕ) (bytes : List ℕ) : Type 0 where

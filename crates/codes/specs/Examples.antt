@@ -3,7 +3,7 @@ use mathlib.Core.Bool.{Bool, true, false}
 use mathlib.Core.List.{List, [], _∷_, map}
 use mathlib.Core.Path.{_≡_}
 use Prim.Native.Nat.{ℕ}
-use Rattle.rules.specs.Meaning.{Meaning, Reading, number, cut, bad}
+use Rattle.rules.specs.Meaning.{Meaning, Reading, cut, bad}
 use Rattle.codes.specs.Chunked.{chunkedMeaning}
 
 pub data Asked : Type 0 where

@@ -1,7 +1,7 @@
 -- The lines that `counts` prints. A count is in hexadecimal without leading zeros; how many there are, places, sizes and
 -- refusals are in decimal.
 use mathlib.Core.Bool.{Bool, cond}
-use mathlib.Core.List.{List, [], _∷_, _++_, map}
+use mathlib.Core.List.{List, _++_, map}
 use Prim.Native.Nat.{ℕ, _-_}
 use lib.Chars.{codes}
 use lib.ListN.{length, take, drop}

@@ -1,19 +1,18 @@
 -- Bits of numbers, bits of bytes, and bits laid over others.
 use mathlib.Core.Bool.{Bool, true, false, not}
 use mathlib.Core.List.{List, [], _∷_, _++_, append-assoc, append-nil}
-use mathlib.Core.Logic.{_⊎_, inl, inr}
 use mathlib.Core.Path.{_≡_, refl, sym, ap, ap₂, subst, _∙_}
 use Prim.Native.Nat.{ℕ, zero, suc, min, _+_, _-_, _*_, _/_, _%_, _^_, _≤_, _<_}
-use native.Mathlib.Nat.{add-comm, add-zero, zero-add, add-suc, suc-add, add-assoc, mul-comm, pow-succ'}
+use native.Mathlib.Nat.{add-zero, zero-add, suc-add, pow-succ'}
 use native.Mathlib.Numerals.{add-one}
 use native.Mathlib.Omega.{arith}
-use lib.Bits.{bitXor, block-half, block-odd, xor-shr, xor-mod, xor-zero-r, differ}
+use lib.Bits.{bitXor, block-half, block-odd, xor-shr, xor-mod, xor-zero-r}
 use lib.Dec.{eqb}
-use lib.ListN.{length, getD, set, take, drop, length-append, length-take, length-drop, length-set, take-append-drop}
-use lib.Pow.{mod-pow-add, pow-pos, pow-add, shr-shr}
-use lib.Seq.{length-take-le, getD-take, take-take, take-at, take-all, drop-append-add, take-append-add, getD-append-add, set-append-left, set-split, drop-cons, take-suc, take-append-seam, drop-append-seam}
+use lib.ListN.{length, getD, set, take, drop, length-append, length-take, length-drop, take-append-drop}
+use lib.Pow.{mod-pow-add, shr-shr}
+use lib.Seq.{length-take-le, getD-take, take-take, take-at, getD-append-add, set-append-left}
 use Rattle.std.proofs.shelf.Lists.{getD-append-left, set-append-right, take-more-set, drop-set-lt}
-use Rattle.std.proofs.shelf.Tests.{eqb-true, eqb-false, eq-eqb, ne-eqb, cases-lt}
+use Rattle.std.proofs.shelf.Tests.{eqb-true, eqb-false, eq-eqb, ne-eqb}
 use Rattle.std.specs.shelf.Lists.{All}
 use Rattle.rules.specs.Bits.{isOdd, lowBits, bit, valueOf, bitsOf, bytesOf, overlay, bitsIn}
 

@@ -1,6 +1,6 @@
 -- Hexadecimal digits, read and written.
-use mathlib.Core.Bool.{Bool, true, false, cond, _&&_}
-use mathlib.Core.List.{List, [], _∷_, _++_, append-assoc, append-nil}
+use mathlib.Core.Bool.{Bool, true, false}
+use mathlib.Core.List.{List, [], _∷_, _++_, append-assoc}
 use mathlib.Core.Logic.{⊎-elim}
 use mathlib.Core.Path.{_≡_, refl, sym, ap, subst, _∙_}
 use Prim.Native.Nat.{ℕ, zero, suc, _+_, _-_, _*_, _/_, _%_, _^_, _≤_, _<_}
@@ -13,9 +13,8 @@ use lib.ListN.{length, drop, getD}
 use Rattle.std.proofs.shelf.Lists.{drop-more}
 use Rattle.std.proofs.shelf.Tests.{cond-true, cond-false, cond-both, and-from, and-parts, cases-lt, leb-true, le-leb, le-ltb, lt-ltb}
 use Rattle.std.proofs.shelf.Ways.{tells}
-use Rattle.std.specs.declared.option.Option.{Option}
 use Rattle.std.specs.declared.option.Option.the-variants.{Some, None}
-use Rattle.text.specs.Hex.{between, digitOf, digitsAfter, atMost, numberIn, digitChar, hexDigits, widthFrom, hexWidth, hexText, hexBytes}
+use Rattle.text.specs.Hex.{between, digitOf, digitsAfter, atMost, numberIn, digitChar, hexDigits, widthFrom, hexWidth, hexText}
 
 some-same : (x y : ℕ) → Some x ≡ Some y → x ≡ y
 some-same x y e = cc

@@ -4,7 +4,6 @@ ghost use Rattle.std.specs.declared.option.Option.the-variants.{Some};
 ghost use Rattle.std.specs.Of.String.{string-bytes};
 ghost use Rattle.std.specs.Vec.{made};
 ghost use Prim.Native.Nat.{min, _-_, _^_, _<_};
-ghost use lib.ListN.{length};
 use std::alloc::AllocError;
 use std::alloc::Global;
 

@@ -1,11 +1,9 @@
-use mathlib.Core.Bool.{true, false}
-use mathlib.Core.Path.{_≡_, sym, ap, _∙_}
-use Prim.Native.Nat.{suc, _+_, _*_, _^_, _%_, _≤_, _<_}
+use mathlib.Core.Path.{ap}
+use Prim.Native.Nat.{suc, _*_, _^_, _<_}
 use native.Mathlib.Omega.{arith}
 use native.Mathlib.Nat.{pow-succ'}
 use lib.Pow.{pow-mono}
-use lib.ListN.{length, drop, length-drop}
-use borrow.Author.Needs.{needs}
+use lib.ListN.{drop, length-drop}
 use Rattle.std.proofs.shelf.Bits.{one-shl, pow-below}
 use Rattle.rules.specs.Bits.{bit, bitsIn}
 use Rattle.rules.proofs.Bits.{length-bitsIn, valueOf-take-below}

@@ -2,7 +2,6 @@ use mathlib.Core.Path.{_≡_, refl, sym, ap, subst, _∙_}
 use Prim.Native.Nat.{_+_, _<_}
 use native.Mathlib.Omega.{arith}
 use lib.ListN.{length, getD, take, drop}
-use lib.Seq.{take-all}
 use Rattle.std.proofs.shelf.Lists.{drop-more, drop-all, take-more}
 use Rattle.std.specs.declared.option.Option.the-variants.{None}
 use Rattle.rules.proofs.Calls.{refused-same}

@@ -1,12 +1,12 @@
 use mathlib.Core.Bool.{Bool, true, false, not, Bool·beq}
 use mathlib.Core.Path.{_≡_, refl, sym, ap, _∙_}
-use Prim.Native.Nat.{_/_, _%_, _<_, _*_, _^_}
+use Prim.Native.Nat.{_/_, _%_, _*_, _^_}
 use native.Mathlib.Omega.{arith}
 use lib.Bits.{bitXor}
 use lib.ListN.{getD, set}
 use lib.Seq.{set-getD}
 use Rattle.std.proofs.shelf.Bits.{one-shl}
-use Rattle.rules.specs.Bits.{isOdd, lowBits, bitsOf}
+use Rattle.rules.specs.Bits.{lowBits, bitsOf}
 use Rattle.rules.proofs.Bits.{getD-bitsOf, lowBits-flip, set-bitsOf}
 use Rattle.codes.proofs.writer.set_bit.Needs as need
 

@@ -1,15 +1,13 @@
-use mathlib.Core.List.{List, [], _∷_, _++_, append-nil}
-use mathlib.Core.Path.{_≡_, refl, sym, ap, ap₂, subst, _∙_}
-use Prim.Native.Nat.{ℕ, _+_}
+use mathlib.Core.List.{[], _∷_, _++_, append-nil}
+use mathlib.Core.Path.{_≡_, sym, ap, subst, _∙_}
+use Prim.Native.Nat.{_+_}
 use native.Mathlib.Omega.{arith}
 use lib.ListN.{getD, drop}
 use Rattle.std.proofs.shelf.Lists.{drop-all}
 use Rattle.std.specs.Of.String.{string-bytes}
-use Rattle.std.specs.declared.result.Result.the-variants.{Ok}
-use Rattle.rules.specs.declared.count.Counted.{Counted}
 use Rattle.counts.specs.Output.{countLines, readLines}
-use Rattle.counts.specs.Report.{bitsBetween, countLine, readLine}
-use Rattle.counts.proofs.Listing.{Back, Seen, Next, ok-same, next-count, counts-more, reads-more}
+use Rattle.counts.specs.Report.{readLine}
+use Rattle.counts.proofs.Listing.{Back, Seen, ok-same, next-count, counts-more, reads-more}
 use Rattle.counts.proofs.output.listed.Needs as need
 
 pub loop-count-holds : need.loop-count-holds

@@ -1,6 +1,5 @@
-use mathlib.Core.List.{[], _∷_, _++_}
-use mathlib.Core.Path.{_≡_, refl, sym, ap, _∙_}
-use native.Mathlib.Omega.{arith}
+use mathlib.Core.List.{[], _++_}
+use mathlib.Core.Path.{_≡_, sym, ap, _∙_}
 use lib.ListN.{getD, take}
 use lib.Seq.{take-all}
 use Rattle.std.proofs.shelf.Lists.{joined-more, take-more}

@@ -1,6 +1,6 @@
 use mathlib.Core.List.{[], _∷_, _++_, append-nil}
 use mathlib.Core.Path.{_≡_, refl, sym, ap, subst, _∙_}
-use Prim.Native.Nat.{_+_, _-_, _*_, _/_, _%_, _^_, _<_}
+use Prim.Native.Nat.{_+_, _-_, _/_, _%_, _<_}
 use native.Mathlib.Omega.{arith}
 use Rattle.std.proofs.shelf.Parts.{pushed}
 use Rattle.std.specs.Of.String.{string-bytes}

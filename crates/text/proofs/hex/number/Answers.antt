@@ -1,12 +1,11 @@
 use mathlib.Core.Path.{_≡_, sym, ap, _∙_}
-use Prim.Native.Nat.{_+_, _*_, _≤_, _<_}
 use native.Mathlib.Omega.{arith}
 use lib.Dec.{leb}
-use lib.ListN.{length, drop, getD}
+use lib.ListN.{getD}
 use Rattle.std.proofs.shelf.Lists.{drop-all}
 use Rattle.std.proofs.shelf.Tests.{cond-true, cond-false, le-leb, lt-leb}
-use Rattle.std.specs.declared.option.Option.the-variants.{Some, None}
-use Rattle.text.specs.Hex.{digitOf, digitsAfter, atMost, numberIn}
+use Rattle.std.specs.declared.option.Option.the-variants.{Some}
+use Rattle.text.specs.Hex.{digitOf, digitsAfter, atMost}
 use Rattle.text.proofs.Digits.{digit-below, digit-goes, digit-ends, digits-grow, digits-fit, number-is}
 use Rattle.text.proofs.hex.number.Needs as need
 use Rattle.text.proofs.hex.number.Needs.{In-Continue-digit}

@@ -1,6 +1,6 @@
 use mathlib.Core.List.{List, [], _∷_, _++_}
 use mathlib.Core.Path.{_≡_, sym, ap, _∙_}
-use Prim.Native.Nat.{ℕ, suc, _+_, _-_, _/_, _^_, _≤_, _<_}
+use Prim.Native.Nat.{ℕ, suc, _+_, _-_, _/_, _^_, _<_}
 use native.Mathlib.Omega.{arith}
 use Rattle.std.proofs.shelf.Tests.{lt-ltb, le-ltb}
 use Rattle.rules.specs.Bits.{lowBits}
@@ -8,7 +8,7 @@ use Rattle.rules.proofs.Bits.{length-lowBits}
 use Rattle.codes.specs.Chunked.{groups, more}
 use Rattle.codes.proofs.Spelling.{group-small, group-bits, room-left, spelled-last, spelled-more, spelled-all}
 use Rattle.codes.proofs.chunked.Chunked.spell.Needs as need
-use Rattle.codes.proofs.chunked.Chunked.spell.Needs.{After-group-of, After-then-spelled}
+use Rattle.codes.proofs.chunked.Chunked.spell.Needs.{After-then-spelled}
 
 pub loop-turn-holds : need.loop-turn-holds
 loop-turn-holds c = (ap (groups 32 (c .args .self .now .later) (c .args .self .now .first)) (c .from-rest .ensures), omega arith, omega arith, omega arith)

@@ -2,7 +2,7 @@ use mathlib.Core.List.{_++_}
 use mathlib.Core.Path.{_≡_}
 use Prim.Native.Nat.{_-_, _^_, _≤_, _<_}
 use Rattle.rules.specs.Bits.{lowBits}
-use Rattle.codes.specs.Chunked.{greatest, groups}
+use Rattle.codes.specs.Chunked.{groups}
 use Rattle.codes.proofs.chunked.Chunked.spell.Given as given
 
 abbrev pub Inv-loop-turn : given.InvT-loop-turn

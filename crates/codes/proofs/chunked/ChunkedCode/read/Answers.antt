@@ -1,22 +1,21 @@
 use mathlib.Core.Bool.{Bool}
 use mathlib.Core.List.{List}
-use mathlib.Core.Path.{_≡_, refl, sym, ap, ap₂, subst, _∙_}
-use Prim.Native.Nat.{ℕ, suc, min, _+_, _-_, _*_, _/_, _%_, _^_, _≤_, _<_}
-use native.Mathlib.Nat.{mul-le-mul-right}
+use mathlib.Core.Path.{_≡_, sym, ap, ap₂, _∙_}
+use Prim.Native.Nat.{ℕ, suc, min, _+_, _-_, _*_, _%_, _^_, _≤_, _<_}
 use native.Mathlib.Omega.{arith}
-use lib.ListN.{length, drop}
-use lib.Pow.{pow-mono, pow-add, pow-pos}
+use lib.ListN.{drop}
+use lib.Pow.{pow-mono, pow-pos}
 use Rattle.std.proofs.shelf.Bits.{shl-whole, shl-below, mod-below}
 use Rattle.std.proofs.shelf.Results.{err-from-errBy}
 use Rattle.std.specs.declared.result.Result.the-variants.{Ok, Err}
 use Rattle.rules.specs.Bits.{bitsIn}
 use Rattle.rules.specs.Calls.{answerOf}
-use Rattle.rules.specs.Meaning.{Reading, number, cut, bad}
+use Rattle.rules.specs.Meaning.{Reading, number}
 use Rattle.rules.specs.declared.count.CountFault.the-variants.{Cut}
 use Rattle.rules.specs.declared.count.BytesEnd.{BytesEnd}
 use Rattle.rules.specs.declared.count.Counted.{Counted}
 use Rattle.codes.specs.Chunked.{greatest, readGroups}
-use Rattle.codes.specs.Reader.{bitsLeft, wordTaken}
+use Rattle.codes.specs.Reader.{bitsLeft}
 use Rattle.codes.proofs.ChunkedLaws.{read-short, no-turns, too-large, zero-group, last-read, too-long, goes-on}
 use Rattle.codes.proofs.Words.{Took, took, not-taken}
 use Rattle.codes.proofs.chunked.ChunkedCode.read.Needs as need

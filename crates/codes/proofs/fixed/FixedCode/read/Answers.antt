@@ -1,5 +1,5 @@
 use mathlib.Core.Path.{sym, _∙_}
-use Prim.Native.Nat.{min, _^_, _<_, _≤_}
+use Prim.Native.Nat.{min, _≤_}
 use native.Mathlib.Omega.{arith}
 use lib.Pow.{pow-mono}
 use Rattle.codes.proofs.Words.{taken-below}

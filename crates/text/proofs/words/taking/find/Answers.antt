@@ -1,4 +1,3 @@
-use Prim.Native.Nat.{_+_}
 use native.Mathlib.Omega.{arith}
 use Rattle.text.proofs.Marks.{upTo-goes, upTo-stops, upTo-none}
 use Rattle.text.proofs.words.taking.find.Needs as need
