@@ -1,4 +1,6 @@
 // The first-access cache, over a table of lines.
+#![tactic(auto)]
+
 pub mod access;
 mod line;
 mod recency;

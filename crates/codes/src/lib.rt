@@ -1,4 +1,6 @@
 // Count codes over byte slices, with the bit reader and the bit writer that they are made of.
+#![tactic(auto)]
+
 ghost use Rattle.std.specs.Prelude.{◌≡◌, length};
 ghost use Rattle.codes.specs.Examples.{examples, WorkedExamples};
 

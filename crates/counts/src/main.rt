@@ -1,4 +1,6 @@
 // Writes counts in a code and reads them back, so that codes can be compared.
+#![tactic(auto)]
+
 mod output;
 mod reply;
 mod report;

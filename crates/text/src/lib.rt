@@ -1,4 +1,6 @@
 // Words, lines and numbers of the texts that the programs read and write.
+#![tactic(auto)]
+
 pub mod hex;
 pub mod lines;
 pub mod place;
