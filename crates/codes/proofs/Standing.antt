@@ -3,7 +3,7 @@ use Rattle.std.proofs.Common.{◌≡◌, ℕ, ◌+◌, ◌≤◌, List, [], ◌�
 use lib.Seq.{drop-append-le}
 use Rattle.std.proofs.ByRecursion.{All-push}
 use Rattle.std.proofs.lemmas.List.{drop-take, drop_all}
-use Rattle.std.specs.List.{flat_map, AllByRecursion as All}
+use Rattle.std.specs.List.{flat_map, AllByRecursion}
 use Rattle.rules.specs.declared.count.WriteRefusal.{WriteRefusal}
 use Rattle.rules.specs.Bits.{bits_in}
 use Rattle.rules.specs.Calls.{answer_of, write_answer, bytes_written, read_answer}
@@ -13,7 +13,7 @@ use Rattle.codes.specs.Series.{series_from, series_bytes, ReadBack}
 
 -- the bits of the counts fill the buffer from the place to `end`
 pub record Stands (m : Meaning) (ns : List ℕ) (place end : ℕ) (bytes : List ℕ) : Type 0 where
-  pub in_range : All (λ n. n ≤ m.top) ns
+  pub in_range : AllByRecursion (λ n. n ≤ m.top) ns
   pub end_is : end ≡ place + length (flat_map m.bits ns)
   pub bits_are : drop place (take end (bits_in bytes)) ≡ flat_map m.bits ns
 
@@ -41,7 +41,7 @@ stands_more m ns n place end next bytes s e =
     }
 
 -- bits that begin with those of the counts are read as the counts
-read_on : (m : Meaning) → Sound m → (ns : List ℕ) (place : ℕ) (bytes : List ℕ) (rest : List _) → All (λ n. n ≤ m.top) ns → drop place (bits_in bytes) ≡ flat_map m.bits ns ++ rest
+read_on : (m : Meaning) → Sound m → (ns : List ℕ) (place : ℕ) (bytes : List ℕ) (rest : List _) → AllByRecursion (λ n. n ≤ m.top) ns → drop place (bits_in bytes) ≡ flat_map m.bits ns ++ rest
     → ReadBack m ns place (place + length (flat_map m.bits ns)) bytes
 read_on m sound [] place bytes rest small is = omega arith
 read_on m sound (n ∷ ns) place bytes rest small is =

@@ -1,6 +1,6 @@
 -- A core keeps its words, and its registers fit, over a whole run.
 use Rattle.std.proofs.Common.{◌≡◌, ℕ, ◌+◌, ◌^◌, ◌<◌, List, [], ◌∷◌, length, set, replicate, refl, ap, ◌∙◌, subst, arith}
-use Rattle.std.specs.List.{AllByRecursion as All}
+use Rattle.std.specs.List.{AllByRecursion}
 use Rattle.std.proofs.ByRecursion.{All-set}
 use Rattle.std.proofs.lemmas.List.{length-set, take_at, drop_at}
 use Rattle.rules.specs.Program.{ran}
@@ -21,7 +21,7 @@ loaded_below Four value = omega arith
 module _ (words : List ℕ) where
   -- a state with the words, and with eight registers that fit
   data Fits : List ℕ → Type 0 where
-    fits : (place : ℕ) (registers : List ℕ) → length registers ≡ 8 → All (λ r. r < 2 ^ 32) registers → Fits (core_state place registers words)
+    fits : (place : ℕ) (registers : List ℕ) → length registers ≡ 8 → AllByRecursion (λ r. r < 2 ^ 32) registers → Fits (core_state place registers words)
 
   number_fits : {state : List ℕ} (d number : ℕ) → Fits state → d < 8 → number < 2 ^ 32 → Fits (with_number d number state)
   number_fits d number (fits place registers eight below) h small =

@@ -1,6 +1,6 @@
 -- A small core. Its state: the place of the word that is next, the eight registers, and the words.
 use Rattle.std.specs.Prelude.{◌≡◌, ℕ, ◌+◌, ◌%◌, ◌^◌, ◌<◌, cond, List, ◌∷◌, ◌++◌, length, take, drop, replicate, ◌==◌, slice_index, slice_set}
-use Rattle.std.specs.List.{AllByRecursion as All}
+use Rattle.std.specs.List.{AllByRecursion}
 use Rattle.rules.specs.Program.{Behaviour, ran}
 use Rattle.rules.specs.declared.program.Want.{Want}
 use Rattle.rules.specs.declared.program.Want.TheVariants as want
@@ -66,7 +66,7 @@ core_behaviour = record { want = core_want; next = core_next }
 pub record CoreKeeps (words state : List ℕ) : Type 0 where
   pub same : drop 9 state ≡ words
   pub eight : length (take 8 (drop 1 state)) ≡ 8
-  pub below : All (λ r. r < 2 ^ 32) (take 8 (drop 1 state))
+  pub below : AllByRecursion (λ r. r < 2 ^ 32) (take 8 (drop 1 state))
 
 -- Whatever the values, the words never change, and every register stays below 2 ^ 32.
 abbrev pub CoreRuns : List ℕ → Type 0

@@ -1,6 +1,6 @@
 -- What keeps numbers below 2 ^ 64.
 use Rattle.std.specs.Prelude.{ℕ, zero, suc, ◌^◌, ◌<◌, List, [], ◌∷◌, ◌++◌, slice_set}
-use Rattle.std.specs.List.{AllByRecursion as All}
+use Rattle.std.specs.List.{AllByRecursion}
 use Rattle.std.proofs.ByRecursion.{All-from_get_or}
 use Rattle.programs.specs.Below.{Below64}
 
@@ -12,7 +12,7 @@ pub below_append : (ms ns : List ℕ) → Below64 ms → Below64 ns → Below64 
 below_append [] ns hm hn = hn
 below_append (m ∷ ms) ns hm hn = below_cons m (ms ++ ns) (hm 0) (below_append ms ns (λ k. hm (suc k)) hn)
 
-pub all_below : (ns : List ℕ) → Below64 ns → All (λ n. n < 2 ^ 64) ns
+pub all_below : (ns : List ℕ) → Below64 ns → AllByRecursion (λ n. n < 2 ^ 64) ns
 all_below ns h = All-from_get_or (λ n. n < 2 ^ 64) ns 0 (λ k l. h k)
 
 pub below_set : (ns : List ℕ) (i n : ℕ) → n < 2 ^ 64 → Below64 ns → Below64 (slice_set ns i n)

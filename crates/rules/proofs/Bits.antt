@@ -6,7 +6,7 @@ use lib.Pow.{mod-pow-add}
 use lib.Seq.{set-append_left}
 use Rattle.std.proofs.lemmas.List.{get_or_append_left, set-append_right, take_more_set, drop-set-lt}
 use Rattle.std.proofs.lemmas.Bool.{eqb-true, eqb-false, eq-eqb, ne_eqb}
-use Rattle.std.specs.List.{AllByRecursion as All}
+use Rattle.std.specs.List.{AllByRecursion}
 use Rattle.rules.specs.Bits.{is_odd, low_bits, bit, value_of, bits_of, bytes_of, overlay, bits_in}
 
 -- one number
@@ -98,7 +98,7 @@ pub bits_of-append : (xs ys : List ℕ) → bits_of (xs ++ ys) ≡ bits_of xs ++
 bits_of-append [] ys = refl
 bits_of-append (x ∷ xs) ys = ap (λ l. low_bits 8 x ++ l) (bits_of-append xs ys)
 
-pub bytes_of-bits_of : (bs : List ℕ) → All (λ b. b < 256) bs → bytes_of (length bs) (bits_of bs) ≡ bs
+pub bytes_of-bits_of : (bs : List ℕ) → AllByRecursion (λ b. b < 256) bs → bytes_of (length bs) (bits_of bs) ≡ bs
 bytes_of-bits_of [] h = refl
 bytes_of-bits_of (b ∷ bs) h =
     ap₂ (λ (x : ℕ) (xs : List ℕ). x ∷ xs) (value_of-low_bits 8 b ∙ omega (arith, h.0)) (bytes_of-bits_of bs h.1)

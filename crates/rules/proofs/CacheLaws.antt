@@ -5,7 +5,7 @@ use lib.Seq.{map-set_same, take-nil}
 use Rattle.std.proofs.ByRecursion.{All-get_or}
 use Rattle.std.proofs.lemmas.List.{length-take, length-map, get_or-replicate, get_or-map, get_or-take}
 use Rattle.std.proofs.lemmas.Bool.{cond-false, cond_both, and_parts, eqb-true, eqb-false}
-use Rattle.std.specs.List.{AllByRecursion as All}
+use Rattle.std.specs.List.{AllByRecursion}
 use Rattle.rules.specs.Bytes.{low_bytes, number_of, stretch, overlay_bytes}
 use Rattle.rules.specs.Cache.{is_size, are_settings, block_of, offset_of, region_size, new_line, region_flagged, stored_in, read_in, first, less, holds, forward, promoted, invalidated_in, set_for, on_set, loaded_in, loaded_value, Operation, load, store, invalidate, applied}
 use Rattle.rules.specs.CacheLaws.{after, blocks_in, used_first, uses, LatestUses, Apart, SetsBounded, RegionsHold, StoresRead, CacheLaws}
@@ -34,7 +34,7 @@ used_first_lem (suc n) b bs us h e =
 
 abbrev Distinct : List ℕ → Type 0
 Distinct [] = Unit {0}
-Distinct (n ∷ ns) = All (λ m. n ≡ m → ⊥) ns × Distinct ns
+Distinct (n ∷ ns) = AllByRecursion (λ m. n ≡ m → ⊥) ns × Distinct ns
 
 apart_from : (ns : List ℕ) → Distinct ns → Apart ns
 apart_from [] d i j lt h e = absurd (omega arith)
@@ -53,10 +53,10 @@ distinct_less test [] d = tt
 distinct_less test (n ∷ ns) d =
     cond_both (test n) ns (n ∷ less test ns) Distinct (λ _. d.1) (λ _. (all_less test (λ m. n ≡ m → ⊥) ns d.0, distinct_less test ns d.1))
 
-others_less : (b : ℕ) (ns : List ℕ) → Distinct ns → All (λ m. b ≡ m → ⊥) (less (λ c. eqb c b) ns)
+others_less : (b : ℕ) (ns : List ℕ) → Distinct ns → AllByRecursion (λ m. b ≡ m → ⊥) (less (λ c. eqb c b) ns)
 others_less b [] d = tt
 others_less b (n ∷ ns) d =
-    cond_both (eqb n b) ns (n ∷ less (λ c. eqb c b) ns) (All (λ m. b ≡ m → ⊥)) (λ t. subst (λ c. All (λ m. c ≡ m → ⊥) ns) (eqb-true n b t) d.0)
+    cond_both (eqb n b) ns (n ∷ less (λ c. eqb c b) ns) (AllByRecursion (λ m. b ≡ m → ⊥)) (λ t. subst (λ c. AllByRecursion (λ m. c ≡ m → ⊥) ns) (eqb-true n b t) d.0)
     (λ f. (λ e. eqb-false n b f (sym e), others_less b ns d.1))
 
 distinct_used : (z : Bool) (b : ℕ) (us : List ℕ) → Distinct us → Distinct (cond z (used_first b us) us)

@@ -3,7 +3,7 @@ use Rattle.std.proofs.Common.{◌≡◌, ℕ, zero, suc, ◌-◌, ◌<◌, Bool,
 use Rattle.std.proofs.ByRecursion.{All-take}
 use Rattle.std.proofs.lemmas.List.{take-map, take-take}
 use Rattle.std.proofs.lemmas.Bool.{cond-true, cond-false, cond_both, cases_Bool, eqb-true, eq-eqb, ne_eqb}
-use Rattle.std.specs.List.{AllByRecursion as All}
+use Rattle.std.specs.List.{AllByRecursion}
 use Rattle.rules.specs.Cache.{new_line, refreshed, staled, first, less, holds, forward, behind, promoted, invalidated_in}
 use Rattle.rules.specs.CacheLaws.{blocks_in}
 use Rattle.rules.specs.declared.cache.Line.{Line}
@@ -40,13 +40,13 @@ module _ {X : Type 0} (test : X → Bool) where
   first_passes P none some [] = none
   first_passes P none some (x ∷ xs) = cond_both (test x) (Some x) (first test xs) P (some x) (λ _. first_passes P none some xs)
 
-  pub first_all : (P : X → Type 0) (Q : Option X → Type 0) → Q None → ((x : X) → P x → Q (Some x)) → (xs : List X) → All P xs → Q (first test xs)
+  pub first_all : (P : X → Type 0) (Q : Option X → Type 0) → Q None → ((x : X) → P x → Q (Some x)) → (xs : List X) → AllByRecursion P xs → Q (first test xs)
   first_all P Q none some [] each = none
   first_all P Q none some (x ∷ xs) each = cond_both (test x) (Some x) (first test xs) Q (λ _. some x each.0) (λ _. first_all P Q none some xs each.1)
 
-  pub all_less : (P : X → Type 0) (xs : List X) → All P xs → All P (less test xs)
+  pub all_less : (P : X → Type 0) (xs : List X) → AllByRecursion P xs → AllByRecursion P (less test xs)
   all_less P [] each = tt
-  all_less P (x ∷ xs) each = cond_both (test x) xs (x ∷ less test xs) (All P) (λ _. each.1) (λ _. (each.0, all_less P xs each.1))
+  all_less P (x ∷ xs) each = cond_both (test x) xs (x ∷ less test xs) (AllByRecursion P) (λ _. each.1) (λ _. (each.0, all_less P xs each.1))
 
   -- one element less of those cut off beyond n + 1
   pub take_less : (n : ℕ) (xs : List X) → take n (less test (take (suc n) xs)) ≡ take n (less test xs)
@@ -163,14 +163,14 @@ first_invalidated_other b c ne (l ∷ ls) =
 -- what holds of every line
 
 module _ (P : Line → Type 0) where
-  pub all_forward : (test : Line → Bool) (fill : List ℕ) (b : ℕ) → ((c : ℕ) → P (new_line fill c)) → (ls : List Line) → All P ls → P (forward fill b (first test ls))
+  pub all_forward : (test : Line → Bool) (fill : List ℕ) (b : ℕ) → ((c : ℕ) → P (new_line fill c)) → (ls : List Line) → AllByRecursion P ls → P (forward fill b (first test ls))
   all_forward test fill b new ls = first_all test P (λ o. P (forward fill b o)) (new b) (λ l p. cond_both l.stale (new_line fill l.block) l P (λ _. new l.block) (λ _. p)) ls
 
-  pub all_promoted : (k : Settings) (fill : List ℕ) (b : ℕ) (change : Line → Line) → ((c : ℕ) → P (new_line fill c)) → ((l : Line) → P l → P (change l)) → (ls : List Line) → All P ls → All P (promoted k fill b change ls)
+  pub all_promoted : (k : Settings) (fill : List ℕ) (b : ℕ) (change : Line → Line) → ((c : ℕ) → P (new_line fill c)) → ((l : Line) → P l → P (change l)) → (ls : List Line) → AllByRecursion P ls → AllByRecursion P (promoted k fill b change ls)
   all_promoted k fill b change new keeps ls each =
       (keeps (forward fill b (first (holds b) ls)) (all_forward (holds b) fill b new ls each), All-take P (k.ways - 1) (less (holds b) ls) (all_less (holds b) P ls each))
 
-  pub all_invalidated : (b : ℕ) → ((l : Line) → P l → P (staled l)) → (ls : List Line) → All P ls → All P (invalidated_in b ls)
+  pub all_invalidated : (b : ℕ) → ((l : Line) → P l → P (staled l)) → (ls : List Line) → AllByRecursion P ls → AllByRecursion P (invalidated_in b ls)
   all_invalidated b keeps [] each = tt
   all_invalidated b keeps (l ∷ ls) each =
-      cond_both (holds b l) (staled l ∷ ls) (l ∷ invalidated_in b ls) (All P) (λ _. (keeps l each.0, each.1)) (λ _. (each.0, all_invalidated b keeps ls each.1))
+      cond_both (holds b l) (staled l ∷ ls) (l ∷ invalidated_in b ls) (AllByRecursion P) (λ _. (keeps l each.0, each.1)) (λ _. (each.0, all_invalidated b keeps ls each.1))

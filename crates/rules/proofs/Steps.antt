@@ -2,7 +2,7 @@
 use Rattle.std.proofs.Common.{◌≡◌, ℕ, ◌+◌, ◌%◌, ◌<◌, ◌≤◌, Bool, true, false, cond, not, eqb, ◌⊎◌, List, [], ◌∷◌, length, get_or, set, Some, None, Option, sym, refl, ap, ◌∙◌, subst, inl, inr, mod-lt, arith}
 use Rattle.std.proofs.lemmas.List.{length-set, length-replicate, get_or-set_same, get_or-set_other, get_or-replicate}
 use Rattle.std.proofs.lemmas.Bool.{cond-false, cases_eq, and_parts, not-true, eqb-true}
-use Rattle.std.specs.List.{AllByRecursion as All}
+use Rattle.std.specs.List.{AllByRecursion}
 use Rattle.rules.specs.Bytes.{low_bytes}
 use Rattle.rules.specs.Cache.{is_size, is_aligned, block_of, offset_of, region_size, region_from, all_flagged, new_line, refreshed, region_flagged, stored_in, first, holds, forward, behind, promoted, known_by, invalidated_in, set_for, on_set, loaded_in, Operation, load, store, invalidate, applied}
 use Rattle.rules.specs.CacheLaws.{after, line_for, block_of_operation, OthersKept, Given}
@@ -22,11 +22,11 @@ module _ (k : Settings) (b : ℕ) (change : List Line → List Line) (cache : Li
   set_kept ne = get_or-set_other cache (b % k.sets) s (change (set_for k b cache)) [] (λ e. ne (sym e))
 
   -- what holds of every line of a set
-  pub all_on_set : (P : Line → Type 0) → s < length cache → ((ls : List Line) → All P ls → All P (change ls)) → All P (get_or cache s []) → All P (get_or (on_set k b change cache) s [])
+  pub all_on_set : (P : Line → Type 0) → s < length cache → ((ls : List Line) → AllByRecursion P ls → AllByRecursion P (change ls)) → AllByRecursion P (get_or cache s []) → AllByRecursion P (get_or (on_set k b change cache) s [])
   all_on_set P h keeps each =
       elim (cases_eq (b % k.sets) s) [
-        | inl e ↦ subst (All P) (sym (set_changed h e)) (keeps (get_or cache s []) each)
-        | inr ne ↦ subst (All P) (sym (set_kept ne)) each
+        | inl e ↦ subst (AllByRecursion P) (sym (set_changed h e)) (keeps (get_or cache s []) each)
+        | inr ne ↦ subst (AllByRecursion P) (sym (set_kept ne)) each
       ]
 
 -- a load that is known has nothing to flag
@@ -68,11 +68,11 @@ module _ (k : Settings) where
   length-after [] = length-replicate k.sets []
   length-after (op ∷ earlier) = length-applied op (after k earlier) ∙ length-after earlier
 
-  pub full_after : (history : List Operation) (s : ℕ) → s < k.sets → All Full (get_or (after k history) s [])
-  full_after [] s h = subst (All Full) (sym (get_or-replicate k.sets s [] [] h)) tt
+  pub full_after : (history : List Operation) (s : ℕ) → s < k.sets → AllByRecursion Full (get_or (after k history) s [])
+  full_after [] s h = subst (AllByRecursion Full) (sym (get_or-replicate k.sets s [] [] h)) tt
   full_after (load fill address size ∷ earlier) s h =
       all_on_set k (block_of address) (loaded_in k fill address size) (after k earlier) s Full (omega (arith, length-after earlier))
-      (λ ls full. subst (All Full) (sym (loaded_is k fill address size ls)) (all_promoted Full k fill (block_of address) (region_flagged k address size) (full_new fill) (λ l f. length-flagged _ _ _ 0 l.flags ∙ f) ls full))
+      (λ ls full. subst (AllByRecursion Full) (sym (loaded_is k fill address size ls)) (all_promoted Full k fill (block_of address) (region_flagged k address size) (full_new fill) (λ l f. length-flagged _ _ _ 0 l.flags ∙ f) ls full))
       (full_after earlier s h)
   full_after (store fill address size value ∷ earlier) s h =
       all_on_set k (block_of address) (promoted k fill (block_of address) (stored_in k address size value)) (after k earlier) s Full (omega (arith, length-after earlier))
@@ -145,11 +145,11 @@ aligned_fits address size t =
     offset_fits address size parts.0 (eqb-true (address % size) 0 parts.1)
 
 module _ (k : Settings) (some-sets : 1 ≤ k.sets) where
-  pub sixteen_after : (history : List Operation) → All Given history → (s : ℕ) → s < k.sets → All Sixteen (get_or (after k history) s [])
-  sixteen_after [] given s h = subst (All Sixteen) (sym (get_or-replicate k.sets s [] [] h)) tt
+  pub sixteen_after : (history : List Operation) → AllByRecursion Given history → (s : ℕ) → s < k.sets → AllByRecursion Sixteen (get_or (after k history) s [])
+  sixteen_after [] given s h = subst (AllByRecursion Sixteen) (sym (get_or-replicate k.sets s [] [] h)) tt
   sixteen_after (load fill address size ∷ earlier) given s h =
       all_on_set k (block_of address) (loaded_in k fill address size) (after k earlier) s Sixteen (omega (arith, length-after k earlier))
-      (λ ls long. subst (All Sixteen) (sym (loaded_is k fill address size ls)) (all_promoted Sixteen k fill (block_of address) (region_flagged k address size) (λ c. given.0.0) (λ l e. e) ls long))
+      (λ ls long. subst (AllByRecursion Sixteen) (sym (loaded_is k fill address size ls)) (all_promoted Sixteen k fill (block_of address) (region_flagged k address size) (λ c. given.0.0) (λ l e. e) ls long))
       (sixteen_after earlier given.1 s h)
   sixteen_after (store fill address size value ∷ earlier) given s h =
       all_on_set k (block_of address) (promoted k fill (block_of address) (stored_in k address size value)) (after k earlier) s Sixteen (omega (arith, length-after k earlier))

@@ -1,6 +1,6 @@
 -- What holds of a cache after any operations, from the empty cache on. A history has its latest operation first.
 use Rattle.std.specs.Prelude.{◌≡◌, ℕ, suc, ◌+◌, ◌-◌, ◌*◌, ◌%◌, ◌^◌, ◌<◌, ◌≤◌, Bool, true, false, cond, not, ◌&&◌, ◌⊎◌, List, [], ◌∷◌, map, length, take, Some, None, Decides, Option, ◌==◌, ◌≢◌, nat_eq, nat_le, nat_lt, slice_index, slice_index_or}
-use Rattle.std.specs.List.{AllByRecursion as All}
+use Rattle.std.specs.List.{AllByRecursion}
 use Rattle.rules.specs.Bytes.{low_bytes}
 use Rattle.rules.specs.Cache.{less, first, holds, block_of, offset_of, region_from, region_size, empty_cache, set_for, is_aligned, is_known, loaded_value, Operation, load, store, invalidate, applied}
 use Rattle.rules.specs.declared.cache.Line.{Line}
@@ -135,12 +135,12 @@ byte_since k block p (store fill address size value ∷ earlier) =
 byte_since k block p (invalidate address ∷ earlier) = byte_since k block p earlier
 
 abbrev pub BytesSince : Settings → Type 0
-BytesSince k = (history : List Operation) → All Given history → (block p : ℕ) (l : Line) → p < 16 → line_for k block (after k history) ≡ Some l → slice_index l.bytes p ≡ byte_since k block p history
+BytesSince k = (history : List Operation) → AllByRecursion Given history → (block p : ℕ) (l : Line) → p < 16 → line_for k block (after k history) ≡ Some l → slice_index l.bytes p ≡ byte_since k block p history
 
 -- Stores: straight after a store, a load of the same access reads the value, as far as it fits the access.
 
 abbrev pub StoresRead : Settings → Type 0
-StoresRead k = (history : List Operation) (fill next : List ℕ) (address size value : ℕ) → All Given (store fill address size value ∷ history)
+StoresRead k = (history : List Operation) (fill next : List ℕ) (address size value : ℕ) → AllByRecursion Given (store fill address size value ∷ history)
     → loaded_value k next address size (after k (store fill address size value ∷ history)) ≡ value % 256 ^ size
 
 pub record CacheLaws (k : Settings) : Type 0 where

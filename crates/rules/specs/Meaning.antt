@@ -1,6 +1,6 @@
 -- What a count code means, and the laws that it owes.
 use Rattle.std.specs.Prelude.{◌≡◌, ℕ, ◌<◌, ◌≤◌, Bool, List, ◌++◌, length, take}
-use Rattle.std.specs.List.{AllByRecursion as All}
+use Rattle.std.specs.List.{AllByRecursion}
 
 -- a list of bits is read as a number, with how many bits that took, or is cut, or is bad
 pub data Reading : Type 0 where
@@ -25,7 +25,7 @@ pub record Sound (m : Meaning) : Type 0 where
   pub least : 1 ≤ m.top
   pub most : m.top ≤ 4294967295
   pub three : length m.name ≡ 3
-  pub bytes : All (λ b. b < 256) m.name
+  pub bytes : AllByRecursion (λ b. b < 256) m.name
   pub short : (n : ℕ) → n ≤ m.top → length (m.bits n) ≤ 64
   -- the bits of a number, followed by anything, are read as that number, and no further bit is used
   pub whole : (n : ℕ) → n ≤ m.top → (rest : List Bool) → m.reading (m.bits n ++ rest) ≡ number n (length (m.bits n))

@@ -1,5 +1,5 @@
 ghost use Rattle.std.specs.Prelude.{◌≡◌, ℕ, ◌^◌, ◌<◌, List};
-ghost use Rattle.std.specs.List.{AllByRecursion as All};
+ghost use Rattle.std.specs.List.{AllByRecursion};
 ghost use Rattle.rules.specs.Program.{Behaviour, Lawful};
 
 // What a program does next. A quiet step does not access memory.
@@ -24,7 +24,7 @@ pub trait Program {
     fn go(&mut self, value: u64)
         ensures { state self.new ≡ behaviour.next (state self.old) value };
 
-    ghost below: { (p : Self) → All (λ n. n < 2 ^ 64) (state p) };
+    ghost below: { (p : Self) → AllByRecursion (λ n. n < 2 ^ 64) (state p) };
 
     ghost lawful: { Lawful behaviour };
 }

@@ -9,8 +9,8 @@ loop-b-preserved c =
     let bytes = c.args.bytes.now in
     let i = c.loop-b.b-index in
     let b = get_or bytes i 0 in
-    let two : c.as-str.result.now ≡ hex_digits 2 b = c.as-str.ensures.value ∙ c.in-ok-digits.ensures ∙ ap (hex_digits 2) c.from.ensures in
-    let grown = pushed {was = string_bytes c.loop-b.text} c.as-str.result.now c.loop-b.invariant c.in-ok-push-str.was c.push-str.ensures.bytes in
+    let two : c.as_str.result.now ≡ hex_digits 2 b = c.as_str.ensures.value ∙ c.in_ok-digits.ensures ∙ ap (hex_digits 2) c.from.ensures in
+    let grown = pushed {was = string_bytes c.loop-b.text} c.as_str.result.now c.loop-b.invariant c.in_ok-push_str.was c.push_str.ensures.bytes in
     grown ∙ ap (λ l. hex_bytes (take i bytes) ++ l) two ∙ flat_map_more (hex_digits 2) [] (take i bytes) b ∙ ap hex_bytes (sym (take_more bytes i 0 c.loop-b-test.true))
 
 pub returns : goal.returns

@@ -10,10 +10,10 @@ loop-done-preserved c =
     let n = c.min-count.result in
     let done = c.loop-done.done in
     let k = n - done - 1 in
-    let ch = c.digit-char.ensures in
-    let small : c.digit-char.result < 128 = subst (λ x. x < 128) (sym ch) (nibble_char c.args.value k) in
+    let ch = c.digit_char.ensures in
+    let small : c.digit_char.result < 128 = subst (λ x. x < 128) (sym ch) (nibble_char c.args.value k) in
     let one = c.push.ensures.ascii small ∙ ap (λ x. x ∷ []) (ch ∙ ap (λ p. digit_char (c.args.value / p % 16)) (sym (sixteen k))) in
-    let grown = pushed {was = string_bytes c.loop-done.text} (encode c.digit-char.result) refl c.in-ok-push.was c.push.ensures.bytes ∙ ap (λ l. string_bytes c.loop-done.text ++ l) one in
+    let grown = pushed {was = string_bytes c.loop-done.text} (encode c.digit_char.result) refl c.in_ok-push.was c.push.ensures.bytes ∙ ap (λ l. string_bytes c.loop-done.text ++ l) one in
     ap (λ l. l ++ hex_digits (n - (done + 1)) c.args.value) grown ∙ digits_more (string_bytes c.loop-done.text) n done c.args.value c.loop-done-test.true ∙ c.loop-done.invariant
 
 pub returns : goal.returns
