@@ -1,9 +1,8 @@
 -- Flags by the history, and the loads that are known.
-use Rattle.std.proofs.Common.{◌≡◌, ℕ, suc, ◌+◌, ◌*◌, ◌/◌, ◌%◌, ◌<◌, ◌≤◌, Bool, true, false, not, ◌||◌, eqb, leb, ◌⊎◌, List, [], ◌∷◌, length, get_or, set, replicate, Some, None, Decides, Option, sym, refl, ap, ◌∙◌, subst, inl, inr, mod-lt, zero-add, div-le_self, arith}
+use Rattle.std.proofs.Common.{◌≡◌, ℕ, suc, ◌+◌, ◌*◌, ◌/◌, ◌%◌, ◌<◌, ◌≤◌, Bool, true, false, not, ◌||◌, eqb, leb, ◌⊎◌, List, [], ◌∷◌, length, get_or, replicate, Some, None, Decides, Option, sym, refl, ap, ◌∙◌, subst, inl, inr, mod-lt, zero-add, div-le_self, arith}
 use Rattle.std.proofs.lemmas.List.{get_or-replicate}
 use Rattle.std.proofs.lemmas.Bool.{and_from, le-leb, cond_both, cases_eq, and_parts, both_ways, not-true, not_from_false, or_cases, or_left, or_right, false≢true}
 use Rattle.std.proofs.lemmas.Bool.Decides.{Decides-at}
-use Rattle.rules.specs.Bytes.{stretch}
 use Rattle.rules.specs.Cache.{is_size, block_of, offset_of, region_size, region_from, within, flagged, all_flagged, new_line, region_flagged, stored_in, first, holds, forward, known_by, set_for, Operation, load, store, invalidate}
 use Rattle.rules.specs.CacheLaws.{after, fresh_line, flag_of, line_for, Covered, FlagsGranule, Held, FlagsHeld, KnownHeld, block_of_operation}
 use Rattle.rules.specs.declared.cache.Line.{Line}

@@ -1,5 +1,5 @@
 -- The first-access cache: a list of sets, each a list of lines, latest use first.
-use Rattle.std.specs.Prelude.{ℕ, suc, ◌+◌, ◌-◌, ◌*◌, ◌/◌, ◌%◌, max, Bool, true, false, cond, not, ◌&&◌, ◌||◌, List, [], ◌∷◌, take, set, replicate, Some, None, Option, ◌==◌, nat_le, slice_index_or, slice_set}
+use Rattle.std.specs.Prelude.{ℕ, suc, ◌+◌, ◌-◌, ◌*◌, ◌/◌, ◌%◌, max, Bool, true, false, cond, not, ◌&&◌, ◌||◌, List, [], ◌∷◌, take, replicate, Some, None, Option, ◌==◌, nat_le, slice_index_or, slice_set}
 use Rattle.rules.specs.Bytes.{low_bytes, number_of, stretch, overlay_bytes}
 use Rattle.rules.specs.declared.cache.Line.{Line}
 use Rattle.rules.specs.declared.cache.Settings.{Settings}

@@ -23,23 +23,23 @@ whole m counts s bytes =
 pub listed-requires : goal.listed-requires
 listed-requires g c =
     let m = g.C.CountCode.meaning c.args.code.now in
-    let s = c.write-series-series.result in
-    (s.next, subst (λ ns. ReadBack m ns 0 s.next c.write-series-series.new.buffer) (sym (take_min s.written c.min-written.result c.args.counts.now c.min-written.ensures)) c.write-series-series.ensures.readback)
+    let s = c.write_series-series.result in
+    (s.next, subst (λ ns. ReadBack m ns 0 s.next c.write_series-series.new.buffer) (sym (take_min s.written c.min-written.result c.args.counts.now c.min-written.ensures)) c.write_series-series.ensures.readback)
 
 pub returns : goal.returns
 returns g c =
     let m = g.C.CountCode.meaning c.args.code.now in
     let counts = c.args.counts.now in
-    let s = c.write-series-series.result in
-    let after = c.write-series-series.new.buffer in
+    let s = c.write_series-series.result in
+    let after = c.write_series-series.new.buffer in
     let part = take_min s.written c.min-written.result counts c.min-written.ensures in
-    let told = c.in-ok-text.ensures in
+    let told = c.in_ok-text.ensures in
     let lines = told.0 ∙ ap (λ ns. count_lines m ns 0) part in
-    let refused = c.in-ok-add-refusal.ensures ∙ ap (λ l. l ++ refused_text s.refusal) lines in
-    let filled = c.as-str.ensures.value ∙ c.in-ok-bytes-line.ensures ∙ ap bytes_line (take_min ((s.next + 7) / 8) c.min-size.result after (c.min-size.ensures ∙ ap (λ k. min k (length after)) c.bytes-for.ensures)) in
-    let bytes = c.in-ok-add-line.ensures ∙ ap₂ (λ l x. l ++ x ++ 10 ∷ []) refused filled in
-    let back = c.as-str-2.ensures.value ∙ told.1 ∙ ap (λ ns. read_lines m ns 0) part in
-    let reads = pushed {was = string_bytes c.add-line.new.text} c.as-str-2.result.now bytes c.in-ok-push-str.was c.push-str.ensures.bytes ∙ ap (λ x. count_lines m (take s.written counts) 0 ++ refused_text s.refusal ++ bytes_line (take ((s.next + 7) / 8) after) ++ (10 ∷ []) ++ x) back in
-    let total = c.as-str-3.ensures.value ∙ c.in-ok-total-line.ensures in
-    let all : string_bytes c.add-line-2.new.text ≡ whole m counts s after = c.in-ok-add-line-2.ensures ∙ ap₂ (λ l x. l ++ x ++ 10 ∷ []) reads total in
-    all ∙ ap₂ (whole m counts) c.write-series-series.ensures.answer c.write-series-series.ensures.bytes
+    let refused = c.in_ok-add_refusal.ensures ∙ ap (λ l. l ++ refused_text s.refusal) lines in
+    let filled = c.as_str.ensures.value ∙ c.in_ok-bytes_line.ensures ∙ ap bytes_line (take_min ((s.next + 7) / 8) c.min-size.result after (c.min-size.ensures ∙ ap (λ k. min k (length after)) c.bytes_for.ensures)) in
+    let bytes = c.in_ok-add_line.ensures ∙ ap₂ (λ l x. l ++ x ++ 10 ∷ []) refused filled in
+    let back = c.as_str-2.ensures.value ∙ told.1 ∙ ap (λ ns. read_lines m ns 0) part in
+    let reads = pushed {was = string_bytes c.add_line.new.text} c.as_str-2.result.now bytes c.in_ok-push_str.was c.push_str.ensures.bytes ∙ ap (λ x. count_lines m (take s.written counts) 0 ++ refused_text s.refusal ++ bytes_line (take ((s.next + 7) / 8) after) ++ (10 ∷ []) ++ x) back in
+    let total = c.as_str-3.ensures.value ∙ c.in_ok-total_line.ensures in
+    let all : string_bytes c.add_line-2.new.text ≡ whole m counts s after = c.in_ok-add_line-2.ensures ∙ ap₂ (λ l x. l ++ x ++ 10 ∷ []) reads total in
+    all ∙ ap₂ (whole m counts) c.write_series-series.ensures.answer c.write_series-series.ensures.bytes

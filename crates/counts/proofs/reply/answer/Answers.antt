@@ -20,16 +20,16 @@ pub returns-in-Ok : goal.returns-in-Ok
 returns-in-Ok c =
     let r = c.args.request.now in
     let m = chunked_meaning c.in-Ok.code.first c.in-Ok.code.later in
-    let all = c.as-slice-counts.ensures.value in
+    let all = c.as_slice-counts.ensures.value in
     let is = chunked_answer r.code c.in-Chunked.first c.in-Chunked.later c.in-Ok.code.first c.in-Ok.code.later (vec_items r.counts) c.in-Chunked.is c.in-Ok.ensures in
-    IfOk-weaker c.output.result (λ s. string_bytes s ≡ output_of m c.as-slice-counts.result.now) (λ s. string_bytes s ≡ answer_to r.code (vec_items r.counts))
+    IfOk-weaker c.output.result (λ s. string_bytes s ≡ output_of m c.as_slice-counts.result.now) (λ s. string_bytes s ≡ answer_to r.code (vec_items r.counts))
     (λ s e. e ∙ ap (output_of m) all ∙ is) c.output.ensures
 
 pub returns-in-Ok-new : goal.returns-in-Ok-new
 returns-in-Ok-new c =
     let r = c.args.request.now in
     let m = fixed_meaning c.in-Ok-new.code.width in
-    let all = c.as-slice-counts.ensures.value in
+    let all = c.as_slice-counts.ensures.value in
     let is = fixed_answer r.code c.in-Fixed.width c.in-Ok-new.code.width (vec_items r.counts) c.in-Fixed.is c.in-Ok-new.ensures in
-    IfOk-weaker c.output-in-Ok-new.result (λ s. string_bytes s ≡ output_of m c.as-slice-counts.result.now) (λ s. string_bytes s ≡ answer_to r.code (vec_items r.counts))
+    IfOk-weaker c.output-in-Ok-new.result (λ s. string_bytes s ≡ output_of m c.as_slice-counts.result.now) (λ s. string_bytes s ≡ answer_to r.code (vec_items r.counts))
     (λ s e. e ∙ ap (output_of m) all ∙ is) c.output-in-Ok-new.ensures
