@@ -3,4 +3,4 @@ use Rattle.rules.proofs.Bits.{length-bits_in}
 use Rattle.codes.proofs.reader.bit_len.Goals as goal
 
 pub returns : goal.returns
-returns c = c.saturating-mul.ensures ∙ sym (length-bits_in c.args.bytes.now)
+returns c = c.saturating_mul.ensures ∙ sym (length-bits_in c.args.bytes.now)

@@ -11,8 +11,8 @@ returns-then-place-end c =
     let bytes = c.args.buffer.now in
     let new = low_bits c.args.width c.args.word in
     let short : length (bits_in bytes) < c.args.place + c.args.width = elim c.then-place-end.branch [
-      | then-place-end-via-then-place-end w ↦ omega (arith, w.if-place-end.true, c.bit-len-end.ensures)
-      | then-place-end-via-else-place-end+then-end-place w ↦ omega (arith, w.if-place-end.false, w.if-end-place.true, c.bit-len-end.ensures)
+      | then-place-end-via-then-place-end w ↦ omega (arith, w.if-place-end.true, c.bit_len-end.ensures)
+      | then-place-end-via-else-place-end+then-end-place w ↦ omega (arith, w.if-place-end.false, w.if-end-place.true, c.bit_len-end.ensures)
     ] in
     record {
       answer = sym (no_room c.args.place c.args.width bytes short);
@@ -24,19 +24,19 @@ loop-i-init c =
     let bits = bits_of c.args.buffer.now in
     let place : c.args.place + 0 ≡ c.args.place = omega arith in
     let count : c.args.width - 0 ≡ c.args.width = omega arith in
-    (ap₂ (λ p n. overlay p (low_bits n c.args.word) bits) place count, c.holds-bytes.ensures)
+    (ap₂ (λ p n. overlay p (low_bits n c.args.word) bits) place count, c.holds_bytes.ensures)
 
-pub set-bit-requires : goal.set-bit-requires
-set-bit-requires c = omega (arith, length-bits_in c.args.buffer.now)
+pub set_bit-requires : goal.set_bit-requires
+set_bit-requires c = omega (arith, length-bits_in c.args.buffer.now)
 
 pub loop-i-preserved : goal.loop-i-preserved
 loop-i-preserved c =
     let old = bits_of c.loop-i.buffer in
     let within : c.args.place + c.loop-i.i < length old = omega (arith, length-bits_of c.loop-i.buffer, length-bits_in c.args.buffer.now) in (
-      ap (overlay (c.args.place + (c.loop-i.i + 1)) (low_bits (c.args.width - (c.loop-i.i + 1)) (c.loop-i.rest / 2))) c.set-bit.ensures
+      ap (overlay (c.args.place + (c.loop-i.i + 1)) (low_bits (c.args.width - (c.loop-i.i + 1)) (c.loop-i.rest / 2))) c.set_bit.ensures
           ∙ laying_more c.args.place c.args.width c.loop-i.i c.loop-i.rest old c.loop-i-test.true within
           ∙ c.loop-i.invariant.0,
-      λ k. (c.type-inv.buffer k).fits,
+      λ k. (c.type_inv.buffer k).fits,
     )
 
 pub returns : goal.returns

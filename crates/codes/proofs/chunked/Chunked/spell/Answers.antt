@@ -25,7 +25,7 @@ then-spelled-requires c =
     record {
       below = l.invariant.1;
       some = omega arith;
-      small = omega (arith, c.group-of.ensures, group_small l.width l.rest);
+      small = omega (arith, c.group_of.ensures, group_small l.width l.rest);
       fits = omega (arith, room, length-low_bits l.spelled.size l.spelled.word);
     }
 
@@ -34,7 +34,7 @@ grown : (c : After-then-spelled) → low_bits c.then-spelled.result.size c.then-
 grown c =
     let l = c.loop-turn in
     c.then-spelled.ensures.bits
-    ∙ ap (λ bs. low_bits l.spelled.size l.spelled.word ++ bs) (ap (low_bits (l.width + 1)) c.group-of.ensures ∙ group_bits l.width l.rest)
+    ∙ ap (λ bs. low_bits l.spelled.size l.spelled.word ++ bs) (ap (low_bits (l.width + 1)) c.group_of.ensures ∙ group_bits l.width l.rest)
 
 pub returns-then-rest-eq0 : goal.returns-then-rest-eq0
 returns-then-rest-eq0 c =

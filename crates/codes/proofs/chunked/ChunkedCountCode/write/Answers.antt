@@ -15,6 +15,6 @@ returns c =
     let within : n ≤ m.top = omega (arith, c.top.ensures) in
     let long = ap length (sym c.spell-spelled.ensures) ∙ length-low_bits spelled.size spelled.word in
     record {
-      answer = c.write-bits.ensures.answer ∙ sym (answer_within m n place spelled.size bytes within long);
-      bytes = c.write-bits.ensures.bytes ∙ ap (λ bits. laid place bits bytes) c.spell-spelled.ensures ∙ sym (bytes_within m n place spelled.size bytes within);
+      answer = c.write_bits.ensures.answer ∙ sym (answer_within m n place spelled.size bytes within long);
+      bytes = c.write_bits.ensures.bytes ∙ ap (λ bits. laid place bits bytes) c.spell-spelled.ensures ∙ sym (bytes_within m n place spelled.size bytes within);
     }

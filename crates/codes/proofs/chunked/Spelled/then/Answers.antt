@@ -3,8 +3,8 @@ use Rattle.rules.specs.Bits.{low_bits}
 use Rattle.codes.proofs.Spelling.{above, joined_below, joined_bits}
 use Rattle.codes.proofs.chunked.Spelled.then.Goals as goal
 
-pub overflow-add-result : goal.overflow-add-result
-overflow-add-result c =
+pub overflow_add-result : goal.overflow_add-result
+overflow_add-result c =
     let s = c.args.self in
     let whole = above s.word c.args.bits s.size c.args.width c.requires.below c.requires.small c.requires.fits in
     let below = joined_below s.word c.args.bits s.size c.args.width c.requires.below c.requires.small in

@@ -12,6 +12,6 @@ returns c =
     let bytes = c.args.buffer.now in
     let within : n ≤ m.top = omega (arith, c.top.ensures) in
     record {
-      answer = c.write-bits.ensures.answer ∙ sym (answer_within m n c.args.place w bytes within (length-low_bits w n));
-      bytes = c.write-bits.ensures.bytes ∙ sym (bytes_within m n c.args.place w bytes within);
+      answer = c.write_bits.ensures.answer ∙ sym (answer_within m n c.args.place w bytes within (length-low_bits w n));
+      bytes = c.write_bits.ensures.bytes ∙ sym (bytes_within m n c.args.place w bytes within);
     }
