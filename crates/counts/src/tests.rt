@@ -55,7 +55,7 @@ fn asked(rt: HostRuntime) -> Result<(), Fail> {
         return Err(Fail::new("refused"));
     };
     assert!(rt; matches!(request.code, CodeAsked::Chunked(2, 2)));
-    assert!(rt; request.counts.as_slice() == &[3u64, u64::MAX]);
+    assert!(rt; request.counts.as_slice() == [3u64, u64::MAX].as_slice());
     Ok(())
 }
 
