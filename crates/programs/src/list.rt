@@ -5,7 +5,7 @@ ghost use Rattle.programs.specs.AccessList.{numbers_of, list_state, list_behavio
 ghost use Rattle.programs.specs.Below.{Below64};
 ghost use Rattle.programs.specs.Making.{Makes};
 ghost use Rattle.programs.specs.Fits.{all_below};
-ghost use Rattle.std.proofs.Common.{rules, arith};
+ghost use Rattle.std.proofs.Common.{rules};
 
 use crate::refusal::{LONGEST, ProgramRefusal};
 use rules::program::{Program, Want};
@@ -76,7 +76,7 @@ impl Program for AccessList {
 
     ghost below = { λ p. (p.place64, (p.last64, all_below _ p.numbers64)) };
 
-    ghost lawful = { first_of (Prim.search rules, Prim.grind (arith, Self.row.coded.inj)) };
+    ghost lawful = { Prim.search rules };
 
     fn want(&self) -> Want {
         let access = self.access();

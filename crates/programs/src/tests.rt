@@ -1,5 +1,5 @@
-use crate::core::Core;
 use crate::list::{AccessList, ListedAccess};
+use crate::processor::Core;
 use crate::refusal::ProgramRefusal;
 use rules::program::{Program, Want};
 use std::alloc::{AllocError, Global};

@@ -1,6 +1,6 @@
 use Rattle.std.proofs.Common.{vec_items, arith}
 use Rattle.programs.proofs.Registers.{register_is}
-use Rattle.programs.proofs.core.Core.register.Goals as goal
+use Rattle.programs.proofs.processor.Core.register.Goals as goal
 
 pub returns : goal.returns
 returns c =

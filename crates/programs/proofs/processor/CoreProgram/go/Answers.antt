@@ -1,6 +1,6 @@
 use Rattle.std.proofs.Common.{◌≤◌, length, vec_items, arith}
 use Rattle.programs.proofs.Registers.{past_stays}
-use Rattle.programs.proofs.core.CoreProgram.go.Goals as goal
+use Rattle.programs.proofs.processor.CoreProgram.go.Goals as goal
 
 pub returns-else-self-len : goal.returns-else-self-len
 returns-else-self-len c =

@@ -4,7 +4,7 @@ ghost use Rattle.programs.specs.Below.{Below64};
 ghost use Rattle.programs.specs.Core.{core_state, core_behaviour, register_at, word_at, address_by, with_number, next_by, CoreRuns};
 ghost use Rattle.programs.specs.Making.{Makes};
 ghost use Rattle.programs.specs.Fits.{below_append, all_below};
-ghost use Rattle.std.proofs.Common.{rules, arith};
+ghost use Rattle.std.proofs.Common.{rules};
 
 use crate::instruction::{Instruction, Op, decoded, loaded_into};
 use crate::refusal::{LONGEST, ProgramRefusal};
@@ -106,7 +106,7 @@ impl Program for Core {
 
     ghost below = { λ p. (p.place64, all_below _ (below_append _ _ p.registers64 p.words64)) };
 
-    ghost lawful = { first_of (Prim.search rules, Prim.grind (arith, Self.row.coded.inj)) };
+    ghost lawful = { Prim.search rules };
 
     fn want(&self) -> Want {
         let i = decoded(self.word());

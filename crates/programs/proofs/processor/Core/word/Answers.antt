@@ -1,7 +1,7 @@
 use Rattle.std.proofs.Common.{◌<◌, ◌≤◌, length, vec_items, ◌∙◌, arith}
 use Rattle.std.proofs.lemmas.List.{get_or_read}
 use Rattle.programs.proofs.Registers.{word_is, word_past}
-use Rattle.programs.proofs.core.Core.word.Goals as goal
+use Rattle.programs.proofs.processor.Core.word.Goals as goal
 
 pub returns-then-self-len : goal.returns-then-self-len
 returns-then-self-len c =

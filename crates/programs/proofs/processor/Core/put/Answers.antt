@@ -1,0 +1,20 @@
+use Rattle.std.proofs.Common.{vec_items, arith, length-set}
+use Rattle.programs.specs.Fits.{below_set}
+use Rattle.programs.proofs.Registers.{number_is}
+use Rattle.programs.proofs.processor.Core.put.Goals as goal
+
+pub invariant_of-self : goal.invariant_of-self
+invariant_of-self c =
+    let p = c.args.self.now in
+    record {
+      few = p.few;
+      place64 = c.requires.1;
+      eight = simp length-set p.eight;
+      registers64 = below_set p.registers c.args.d c.args.number (omega arith) p.registers64;
+      words64 = p.words64;
+    }
+
+pub returns : goal.returns
+returns c =
+    let p = c.args.self.now in
+    number_is p.place p.registers (vec_items p.words) c.args.d c.args.number (omega arith)
