@@ -1,5 +1,5 @@
 -- Where a block's line lies, and how the block comes forward.
-use Rattle.std.specs.Prelude.{◌≡◌, ℕ, ◌+◌, ◌*◌, ◌%◌, ◌<◌, true, false, cond, List, [], ◌∷◌, map, length, get_or, set, Some, None, vec_items, vec_len, Option, slice_index, slice_index_or, slice_set}
+use Rattle.std.specs.Prelude.{◌≡◌, ℕ, ◌+◌, ◌*◌, ◌%◌, ◌<◌, true, false, cond, List, [], ◌∷◌, map, length, get_or, Some, None, vec_items, vec_len, Option, slice_index, slice_index_or, slice_set}
 use Rattle.rules.specs.Cache.{first, holds, forward, behind, set_for, on_set}
 use Rattle.rules.specs.declared.cache.Line.{Line}
 use Rattle.cache.specs.Recency.{recent}

@@ -2,7 +2,7 @@ use Rattle.std.proofs.Common.{◌≡◌, ℕ, ◌<◌, take, sym, ap, ◌∙◌,
 use Rattle.cache.specs.Recency.{to_front}
 use Rattle.cache.proofs.Order.{spread, take-to_front, length-recent}
 use Rattle.cache.proofs.recency.Recency.promote.Goals as goal
-use Rattle.cache.proofs.recency.Recency.promote.Goals.{in-0, in-1, in-2, in-default}
+use Rattle.cache.proofs.recency.Recency.promote.Goals.{in-0, in-1, in-2, in_default}
 
 pub returns : goal.returns
 returns c =
@@ -15,5 +15,5 @@ returns c =
       | in-0 w ↦ moved 0 (omega arith) (w.self-is ∙ sym (ap (to_front 0) (spread r.order r.four)))
       | in-1 w ↦ moved 1 (omega arith) (w.self-is ∙ sym (ap (to_front 1) (spread r.order r.four)))
       | in-2 w ↦ moved 2 (omega arith) (w.self-is ∙ sym (ap (to_front 2) (spread r.order r.four)))
-      | in-default w ↦ moved 3 (omega (arith, r.few)) (w.self-is ∙ sym (ap (to_front 3) (spread r.order r.four)))
+      | in_default w ↦ moved 3 (omega (arith, r.few)) (w.self-is ∙ sym (ap (to_front 3) (spread r.order r.four)))
     ]

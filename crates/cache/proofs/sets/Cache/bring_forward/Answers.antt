@@ -15,12 +15,12 @@ returns c =
     let fill = c.args.fill.now in
     let b = c.args.block in
     let inside = slot_inside b before after f up in
-    let came : c.bring-in.new.line ≡ forward fill b (first (holds b) (set_of b before)) =
-    c.bring-in.ensures ∙ brought b before after f up fill c.line-mut.result.now c.line-mut.ensures.value in
+    let came : c.bring_in.new.line ≡ forward fill b (first (holds b) (set_of b before)) =
+    c.bring_in.ensures ∙ brought b before after f up fill c.line_mut.result.now c.line_mut.ensures.value in
     let held : f.slot < length (table_of after) = omega (arith, inside, after.table.lines.ok.0) in
     record {
       settings = settings_same b before after f up;
       slotted = inside;
-      line = λ l is. is ∙ get_or-set_same (table_of after) f.slot c.bring-in.new.line l held ∙ came;
-      sets = front_sets b before after f up c.bring-in.new.line;
+      line = λ l is. is ∙ get_or-set_same (table_of after) f.slot c.bring_in.new.line l held ∙ came;
+      sets = front_sets b before after f up c.bring_in.new.line;
     }

@@ -7,45 +7,40 @@ use Rattle.cache.proofs.Lookup.{few_used, few_kept, entered}
 use Rattle.cache.proofs.View.{way_below}
 use Rattle.cache.proofs.sets.Cache.enter.Goals as goal
 
-pub enter-requires : goal.enter-requires
-enter-requires c =
+pub enter-requires-clause-room : goal.enter-requires-clause-room
+enter-requires-clause-room c =
     let self = c.args.self.now in
-    let bounds = ways_bounds self.shape.settings self.shape.proper in
     let ways = ap (λ (k : Settings). k.ways) c.settings-ways.ensures in
-    record {
-      some = omega (arith, ways, bounds.0);
-      most = omega (arith, ways, bounds.1);
-      room = omega (arith, ways, few_used self c.args.block c.set-of-set.result c.index-mut.result.now c.set-of-set.ensures.is c.set-of-set.ensures.inside c.index-mut.ensures.value);
-    }
+    omega (arith, ways, few_used self c.args.block c.set_of-set.result c.index_mut.result.now c.set_of-set.ensures.is c.set_of-set.ensures.inside c.index_mut.ensures.value)
 
 -- the way that comes first is one of four
 way_first : (r : Recency) (w : ℕ) (ws : List ℕ) → recent r ≡ w ∷ ws → w < 4
 way_first r w ws e = omega (arith, ap (λ (xs : List ℕ). get_or xs 0 0) e, way_below r 0 (omega (arith, ap length e)))
 
-pub invariant-of-self : goal.invariant-of-self
-invariant-of-self c =
+pub invariant_of-self-clause-few : goal.invariant_of-self-clause-few
+invariant_of-self-clause-few c =
     let self = c.args.self.now in
-    let r = c.index-mut.result.now in
+    let r = c.index_mut.result.now in
     let ways = ap (λ (k : Settings). k.ways) c.settings-ways.ensures in
     let bounds = ways_bounds self.shape.settings self.shape.proper in
     let few : length (recent c.enter.new.self) ≤ self.shape.settings.ways =
     omega (arith, ap length c.enter.ensures, length-take (c.settings-ways.result.ways - 1) (recent r), ways, bounds.0) in
-    (self.many, (self.room, (few_kept (vec_items self.orders) c.set-of-set.result self.shape.settings.ways c.enter.new.self (omega (arith, c.set-of-set.ensures.inside, self.orders.ok.0)) few self.few, tt)))
+    few_kept (vec_items self.orders) c.set_of-set.result self.shape.settings.ways c.enter.new.self (omega (arith, c.set_of-set.ensures.inside, self.orders.ok.0)) few self.few
 
-pub overflow-add-result : goal.overflow-add-result
-overflow-add-result c =
+pub overflow_add-result : goal.overflow_add-result
+overflow_add-result c =
     let self = c.args.self.now in
-    record { fits = omega (arith, way_first c.enter.new.self c.enter.result _ c.enter.ensures, c.set-of-set.ensures.inside, self.many, (sets_bounds self.shape.settings self.shape.proper).1) }
+    record { fits = omega (arith, way_first c.enter.new.self c.enter.result _ c.enter.ensures, c.set_of-set.ensures.inside, self.many, (sets_bounds self.shape.settings self.shape.proper).1) }
 
 pub returns : goal.returns
 returns c =
     let self = c.args.self.now in
-    let r = c.index-mut.result.now in
+    let r = c.index_mut.result.now in
     let ways = ap (λ (k : Settings). k.ways) c.settings-ways.ensures in
     record {
       shape = refl;
       table = refl;
-      slotted = omega (arith, way_first c.enter.new.self c.enter.result _ c.enter.ensures, c.set-of-set.ensures.inside, self.room, self.table.lines.ok.0);
-      sets = entered self c.args.block c.set-of-set.result r c.set-of-set.ensures.is c.set-of-set.ensures.inside c.index-mut.ensures.value c.requires
+      slotted = omega (arith, way_first c.enter.new.self c.enter.result _ c.enter.ensures, c.set_of-set.ensures.inside, self.room, self.table.lines.ok.0);
+      sets = entered self c.args.block c.set_of-set.result r c.set_of-set.ensures.is c.set_of-set.ensures.inside c.index_mut.ensures.value c.requires
           c.enter.new.self c.enter.result (c.enter.ensures ∙ ap (λ n. c.enter.result ∷ take (n - 1) (recent r)) ways);
     }

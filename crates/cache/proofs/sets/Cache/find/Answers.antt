@@ -3,25 +3,11 @@ use Rattle.std.proofs.lemmas.List.{get_or_read}
 use Rattle.std.proofs.lemmas.Bool.{ne_eqb}
 use Rattle.rules.specs.Cache.{holds}
 use Rattle.rules.specs.declared.cache.Line.{Line}
-use Rattle.rules.proofs.Flags.{sets_bounds}
 use Rattle.cache.specs.Lookup.{Lies}
 use Rattle.cache.specs.Recency.{recent}
 use Rattle.cache.specs.View.{blank, line_in, table_of}
 use Rattle.cache.proofs.Lookup.{lies, absent, slot_below}
-use Rattle.cache.proofs.View.{way_below}
 use Rattle.cache.proofs.sets.Cache.find.Goals as goal
-
-pub overflow-add-slot : goal.overflow-add-slot
-overflow-add-slot c =
-    let self = c.args.self.now in
-    let way = way_below c.index.result.now c.loop-place.place (omega (arith, c.used-place-end.ensures)) in
-    record { fits = omega (arith, c.way.ensures, way, c.set-of-set.ensures.inside, self.many, (sets_bounds self.shape.settings self.shape.proper).1) }
-
-pub line-requires : goal.line-requires
-line-requires c =
-    let self = c.args.self.now in
-    let way = way_below c.index.result.now c.loop-place.place (omega (arith, c.used-place-end.ensures)) in
-    omega (arith, c.way.ensures, way, c.set-of-set.ensures.inside, self.room)
 
 -- the line that was looked at
 looked : (lines : List Line) (s way w : ℕ) (l : Line) → way ≡ w → l ≡ get_or lines (4 * s + way) l → 4 * s + w < length lines → l ≡ line_in lines s w
@@ -33,12 +19,12 @@ pub returns-then-line-block : goal.returns-then-line-block
 returns-then-line-block c =
     let self = c.args.self.now in
     let block = c.args.block in
-    let s = c.set-of-set.result in
+    let s = c.set_of-set.result in
     let r = c.index.result.now in
     let p = c.loop-place.place in
     let h : p < length (recent r) = omega (arith, c.used-place-end.ensures) in
-    let is = c.set-of-set.ensures.is in
-    let inside = c.set-of-set.ensures.inside in
+    let is = c.set_of-set.ensures.is in
+    let inside = c.set_of-set.ensures.inside in
     let line = looked (table_of self) s c.way.result (get_or (recent r) p 0) c.line.result.now c.way.ensures c.line.ensures (slot_below self block s r is inside c.index.ensures p h) in
     subst (λ w. Lies block self p (4 * s + w)) (sym c.way.ensures)
     (lies self block s r is inside c.index.ensures p h (sym (ap (λ (l : Line). l.block) line) ∙ c.if-line-block.true) c.loop-place.invariant)
@@ -47,17 +33,17 @@ pub loop-place-preserved : goal.loop-place-preserved
 loop-place-preserved c =
     let self = c.args.self.now in
     let block = c.args.block in
-    let s = c.set-of-set.result in
+    let s = c.set_of-set.result in
     let r = c.index.result.now in
     let p = c.loop-place.place in
     let h : p < length (recent r) = omega (arith, c.used-place-end.ensures) in
     let line = looked (table_of self) s c.way.result (get_or (recent r) p 0) c.line.result.now c.way.ensures c.line.ensures
-    (slot_below self block s r c.set-of-set.ensures.is c.set-of-set.ensures.inside c.index.ensures p h) in
+    (slot_below self block s r c.set_of-set.ensures.is c.set_of-set.ensures.inside c.index.ensures p h) in
     below_more (λ i. holds block (line_in (table_of self) s (get_or (recent r) i 0)) ≡ false) p c.loop-place.invariant
     (sym (ap (holds block) line) ∙ ne_eqb c.line.result.now.block block c.if-line-block.false)
 
 pub returns : goal.returns
 returns c =
     let r = c.index.result.now in
-    absent c.args.self.now c.args.block c.set-of-set.result r c.set-of-set.ensures.is c.set-of-set.ensures.inside c.index.ensures
+    absent c.args.self.now c.args.block c.set_of-set.result r c.set_of-set.ensures.is c.set_of-set.ensures.inside c.index.ensures
     (λ i l. c.loop-place.invariant i (omega (arith, c.used-place-end.ensures)))

@@ -9,8 +9,8 @@ pub returns-in-Some : goal.returns-in-Some
 returns-in-Some c =
     let self = c.args.self.now in
     let found = c.in-Some.found in
-    let sets = stale_sets c.args.block self found.place found.slot c.line-mut.result.now c.make-stale.new.line c.in-Some.ensures c.line-mut.ensures.value c.make-stale.ensures in
+    let sets = stale_sets c.args.block self found.place found.slot c.line_mut.result.now c.make_stale.new.line c.in-Some.ensures c.line_mut.ensures.value c.make_stale.ensures in
     record { sets = sets; settings = refl; order = ap (map blocks_in) sets ∙ order_kept (settings_of self) c.args.block (sets_of self) }
 
-pub returns-in-default : goal.returns-in-default
-returns-in-default c = record { sets = absent_sets c.args.block c.args.self.now c.in-default.ensures; settings = refl; order = refl }
+pub returns-in_default-clause-sets : goal.returns-in_default-clause-sets
+returns-in_default-clause-sets c = absent_sets c.args.block c.args.self.now c.in_default.ensures

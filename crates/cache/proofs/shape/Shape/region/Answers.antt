@@ -1,15 +1,14 @@
-use Rattle.std.proofs.Common.{◌≡◌, ℕ, ◌+◌, ◌*◌, ◌/◌, ◌≤◌, ap, ap₂, arith}
+use Rattle.std.proofs.Common.{◌≡◌, ℕ, ◌+◌, ◌*◌, ◌/◌, ap, ap₂, arith}
 use Rattle.rules.specs.Cache.{offset_of, region_size}
-use Rattle.rules.proofs.Flags.{by_size, granule_size, region_sized, region_fits}
+use Rattle.rules.proofs.Flags.{granule_size, region_fits}
 use Rattle.cache.proofs.shape.Shape.region.Goals as goal
 
-pub invariant-of-result : goal.invariant-of-result
-invariant-of-result c =
+pub invariant_of-result-clause-inside : goal.invariant_of-result-clause-inside
+invariant_of-result-clause-inside c =
     let k = c.args.self.settings in
     let a = c.args.access in
     let granuled = granule_size k c.args.self.proper in
-    let size_is : c.region-size-size.result ≡ region_size k a.size = c.region-size-size.ensures in
+    let size_is : c.region_size-size.result ≡ region_size k a.size = c.region_size-size.ensures in
     let offset-is : c.stretch-offset.result.from ≡ offset_of a.address = ap (λ (p : ℕ × ℕ). p.0) c.stretch-offset.ensures in
     let same = ap₂ (λ (o n : ℕ). o / n * n + n) offset-is size_is in
-    let few : region_size k a.size ≤ 8 = by_size (λ n. n ≤ 8) (omega arith) (omega arith) (omega arith) (omega arith) (region_size k a.size) (region_sized k a.address a.size a.sized granuled) in
-    (omega (arith, same, region_fits k a.address a.size a.sized granuled), (omega (arith, size_is, few), tt))
+    omega (arith, same, region_fits k a.address a.size a.sized granuled)
