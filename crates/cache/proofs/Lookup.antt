@@ -6,7 +6,7 @@ use Rattle.std.proofs.lemmas.Bool.{cases_eq, eq-eqb}
 use Rattle.rules.specs.Cache.{holds, less, behind, on_set}
 use Rattle.rules.specs.declared.cache.Line.{Line}
 use Rattle.rules.proofs.Sets.{less_at, less_none}
-use Rattle.cache.specs.Lookup.{set_of, ways_of, AbsentBelow, Lies}
+use Rattle.cache.specs.Lookup.{block_set, ways_of, AbsentBelow, Lies}
 use Rattle.cache.specs.Recency.{recent, to_front}
 use Rattle.cache.specs.View.{settings_of, blank, line_in, lines_of, table_of, sets_from, sets_of}
 use Rattle.cache.specs.declared.recency.Recency.{Recency}
@@ -44,20 +44,20 @@ module _ (c : Cache) (block s : ℕ) (r : Recency) (is : s ≡ block % (settings
   pub roomy : 4 * length (vec_items c.orders) ≤ length (table_of c)
   roomy = omega (arith, c.orders.ok.0, c.table.lines.ok.0, c.room)
 
-  pub set_is : set_of block c ≡ lines_of (table_of c) s r
+  pub set_is : block_set block c ≡ lines_of (table_of c) s r
   set_is =
       ap (λ n. get_or (sets_of c) n []) (sym is) ∙ get_or-sets_from (table_of c) 0 (vec_items c.orders) s r within order ∙ ap (λ n. lines_of (table_of c) n r) (zero-add s)
 
   pub ways_are : ways_of block c ≡ recent r
   ways_are = ap (λ n. get_or (map recent (vec_items c.orders)) n []) (sym is) ∙ get_or-map recent (vec_items c.orders) s r [] within ∙ ap recent (sym order)
 
-  pub set_long : length (set_of block c) ≡ length (recent r)
+  pub set_long : length (block_set block c) ≡ length (recent r)
   set_long = ap length set_is ∙ length-lines_of (table_of c) s r
 
   pub few_used : length (recent r) ≤ (settings_of c).ways
   few_used = subst (λ xs. length xs ≤ (settings_of c).ways) ways_are (c.few (block % (settings_of c).sets))
 
-  pub line_at : (p : ℕ) → p < length (recent r) → get_or (set_of block c) p blank ≡ line_in (table_of c) s (get_or (recent r) p 0)
+  pub line_at : (p : ℕ) → p < length (recent r) → get_or (block_set block c) p blank ≡ line_in (table_of c) s (get_or (recent r) p 0)
   line_at p h = ap (λ ls. get_or ls p blank) set_is ∙ get_or-lines_of (table_of c) s r p blank h
 
   pub slot_below : (p : ℕ) → p < length (recent r) → 4 * s + get_or (recent r) p 0 < length (table_of c)
@@ -74,11 +74,11 @@ module _ (c : Cache) (block s : ℕ) (r : Recency) (is : s ≡ block % (settings
     before = λ i l. ap (holds block) (line_at i (omega arith)) ∙ none i l;
   }
 
-  pub absent : ((i : ℕ) → i < length (recent r) → holds block (line_in (table_of c) s (get_or (recent r) i 0)) ≡ false) → AbsentBelow block (set_of block c) (length (set_of block c))
+  pub absent : ((i : ℕ) → i < length (recent r) → holds block (line_in (table_of c) s (get_or (recent r) i 0)) ≡ false) → AbsentBelow block (block_set block c) (length (block_set block c))
   absent none i l = let h : i < length (recent r) = omega (arith, set_long) in ap (holds block) (line_at i h) ∙ none i h
 
   -- the ways ws stand behind a way that comes forward
-  comes : (r' : Recency) (w : ℕ) (ws : List ℕ) (l : Line) → recent r' ≡ w ∷ ws → map (line_in (table_of c) s) ws ≡ behind (settings_of c).ways block (set_of block c)
+  comes : (r' : Recency) (w : ℕ) (ws : List ℕ) (l : Line) → recent r' ≡ w ∷ ws → map (line_in (table_of c) s) ws ≡ behind (settings_of c).ways block (block_set block c)
       → sets_from (set (table_of c) (4 * s + w) l) 0 (set (vec_items c.orders) s r') ≡ on_set (settings_of c) block (λ ls. l ∷ behind (settings_of c).ways block ls) (sets_of c)
   comes r' w ws l e same =
       forward_sets (table_of c) (vec_items c.orders) s r' w ws l e within roomy
@@ -88,7 +88,7 @@ module _ (c : Cache) (block s : ℕ) (r : Recency) (is : s ≡ block % (settings
       → sets_from (set (table_of c) slot l) 0 (set (vec_items c.orders) s r') ≡ on_set (settings_of c) block (λ ls. l ∷ behind (settings_of c).ways block ls) (sets_of c)
   touched p slot at r' e l =
       let f = line_in (table_of c) s in
-      let ls = set_of block c in
+      let ls = block_set block c in
       let few = few_used in
       let h : p < length (recent r) = omega (arith, set_long, at.inside) in
       let slot_is : slot ≡ 4 * s + get_or (recent r) p 0 = at.way ∙ ap₂ (λ (a b : ℕ). 4 * a + b) (sym is) (ap (λ (xs : List ℕ). get_or xs p 0) ways_are) in
@@ -100,9 +100,9 @@ module _ (c : Cache) (block s : ℕ) (r : Recency) (is : s ≡ block % (settings
       ap (λ n. sets_from (set (table_of c) n l) 0 (set (vec_items c.orders) s r')) slot_is
       ∙ comes r' (get_or (recent r) p 0) (remove (recent r) p) l e (moved ∙ sym (take_all ((settings_of c).ways - 1) (less (holds block) ls) short))
 
-  pub entered : AbsentBelow block (set_of block c) (length (set_of block c)) → (r' : Recency) (w : ℕ) → recent r' ≡ w ∷ take ((settings_of c).ways - 1) (recent r) → (l : Line)
+  pub entered : AbsentBelow block (block_set block c) (length (block_set block c)) → (r' : Recency) (w : ℕ) → recent r' ≡ w ∷ take ((settings_of c).ways - 1) (recent r) → (l : Line)
       → sets_from (set (table_of c) (4 * s + w) l) 0 (set (vec_items c.orders) s r') ≡ on_set (settings_of c) block (λ ls. l ∷ behind (settings_of c).ways block ls) (sets_of c)
   entered none r' w e l =
       let n = (settings_of c).ways - 1 in
       comes r' w (take n (recent r)) l e
-      (sym (take-map (line_in (table_of c) s) n (recent r)) ∙ ap (take n) (sym set_is ∙ sym (less_none (holds block) (set_of block c) blank none)))
+      (sym (take-map (line_in (table_of c) s) n (recent r)) ∙ ap (take n) (sym set_is ∙ sym (less_none (holds block) (block_set block c) blank none)))

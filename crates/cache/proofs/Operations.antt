@@ -6,7 +6,7 @@ use Rattle.rules.specs.Cache.{new_line, refreshed, staled, first, holds, forward
 use Rattle.rules.specs.declared.cache.Line.{Line}
 use Rattle.rules.proofs.Sets.{first_at, invalidated_at, invalidated_none}
 use Rattle.rules.proofs.Flags.{sets_bounds}
-use Rattle.cache.specs.Lookup.{set_of, AbsentBelow, Lies, Promotes}
+use Rattle.cache.specs.Lookup.{block_set, AbsentBelow, Lies, Promotes}
 use Rattle.cache.specs.Recency.{recent}
 use Rattle.cache.specs.View.{settings_of, blank, table_of, lines_of, sets_from, sets_of}
 use Rattle.cache.specs.declared.recency.Recency.{Recency}
@@ -26,9 +26,9 @@ empty_ways (suc n) zero r e = e
 empty_ways (suc n) (suc t) r e = empty_ways n t r e
 
 -- a line of the table that was found
-pub found_line : (block : ℕ) (c : Cache) (place slot : ℕ) (l : Line) → Lies block c place slot → l ≡ get_or (table_of c) slot l → first (holds block) (set_of block c) ≡ Some l
+pub found_line : (block : ℕ) (c : Cache) (place slot : ℕ) (l : Line) → Lies block c place slot → l ≡ get_or (table_of c) slot l → first (holds block) (block_set block c) ≡ Some l
 found_line block c place slot l at is =
-    first_at (holds block) (set_of block c) place blank at.inside at.holding at.before ∙ ap Some (at.line ∙ sym (get_or_read (table_of c) slot l at.slotted is blank))
+    first_at (holds block) (block_set block c) place blank at.inside at.holding at.before ∙ ap Some (at.line ∙ sym (get_or_read (table_of c) slot l at.slotted is blank))
 
 -- a change in place
 
@@ -61,14 +61,14 @@ placed_sets block c place slot w at =
 pub stale_sets : (block : ℕ) (c : Cache) (place slot : ℕ) (l w : Line) → Lies block c place slot → l ≡ get_or (table_of c) slot l → w ≡ staled l
     → sets_from (set (table_of c) slot w) 0 (vec_items c.orders) ≡ on_set (settings_of c) block (invalidated_in block) (sets_of c)
 stale_sets block c place slot l w at is e =
-    let same : l ≡ get_or (set_of block c) place blank = get_or_read (table_of c) slot l at.slotted is blank ∙ sym at.line in
+    let same : l ≡ get_or (block_set block c) place blank = get_or_read (table_of c) slot l at.slotted is blank ∙ sym at.line in
     placed_sets block c place slot w at
-    ∙ ap (set (sets_of c) (block % (settings_of c).sets)) (ap (set (set_of block c) place) (e ∙ ap staled same) ∙ sym (invalidated_at block (set_of block c) place blank at.inside at.holding at.before))
+    ∙ ap (set (sets_of c) (block % (settings_of c).sets)) (ap (set (block_set block c) place) (e ∙ ap staled same) ∙ sym (invalidated_at block (block_set block c) place blank at.inside at.holding at.before))
 
-pub absent_sets : (block : ℕ) (c : Cache) → AbsentBelow block (set_of block c) (length (set_of block c)) → sets_of c ≡ on_set (settings_of c) block (invalidated_in block) (sets_of c)
+pub absent_sets : (block : ℕ) (c : Cache) → AbsentBelow block (block_set block c) (length (block_set block c)) → sets_of c ≡ on_set (settings_of c) block (invalidated_in block) (sets_of c)
 absent_sets block c none =
     let s = block % (settings_of c).sets in
-    sym (ap (set (sets_of c) s) (invalidated_none block (set_of block c) blank none) ∙ set-get_or (sets_of c) s [])
+    sym (ap (set (sets_of c) s) (invalidated_none block (block_set block c) blank none) ∙ set-get_or (sets_of c) s [])
 
 -- the slot that has come forward
 module _ (block : ℕ) (before after : Cache) (f : Front) (up : Promotes block before after f) where
@@ -82,7 +82,7 @@ module _ (block : ℕ) (before after : Cache) (f : Front) (up : Promotes block b
   slot_inside = omega (arith, up.comes.slotted, ap length table_same, after.table.lines.ok.0)
 
   -- its line, once filled
-  pub brought : (fill : List ℕ) (l : Line) → l ≡ get_or (table_of after) f.slot l → cond f.present (refreshed fill l) (new_line fill block) ≡ forward fill block (first (holds block) (set_of block before))
+  pub brought : (fill : List ℕ) (l : Line) → l ≡ get_or (table_of after) f.slot l → cond f.present (refreshed fill l) (new_line fill block) ≡ forward fill block (first (holds block) (block_set block before))
   brought fill l is =
       let same : l ≡ get_or (table_of before) f.slot blank =
       get_or_read (table_of after) f.slot l (omega (arith, slot_inside, after.table.lines.ok.0)) is blank ∙ ap (λ t. get_or t f.slot blank) table_same in

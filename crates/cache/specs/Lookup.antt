@@ -1,5 +1,5 @@
 -- Where a block's line lies, and how the block comes forward.
-use Rattle.std.specs.Prelude.{◌≡◌, ℕ, ◌+◌, ◌*◌, ◌%◌, ◌<◌, true, false, cond, List, [], ◌∷◌, map, length, get_or, Some, None, vec_items, vec_len, Option, slice_index, slice_index_or, slice_set}
+use Rattle.std.specs.Prelude.{◌≡◌, ℕ, ◌+◌, ◌*◌, ◌%◌, ◌<◌, true, false, cond, List, [], ◌∷◌, map, length, Some, None, vec_items, vec_len, Option, slice_index, slice_index_or, slice_set}
 use Rattle.rules.specs.Cache.{first, holds, forward, behind, set_for, on_set}
 use Rattle.rules.specs.declared.cache.Line.{Line}
 use Rattle.cache.specs.Recency.{recent}
@@ -13,8 +13,8 @@ abbrev pub AbsentBelow : ℕ → List Line → ℕ → Type 0
 AbsentBelow block ls n = (i : ℕ) → i < n → holds block (slice_index_or ls i blank) ≡ false
 
 -- the block's set
-abbrev pub set_of : ℕ → Cache → List Line
-set_of block c = set_for (settings_of c) block (sets_of c)
+abbrev pub block_set : ℕ → Cache → List Line
+block_set block c = set_for (settings_of c) block (sets_of c)
 
 -- the ways of the block's set that are in use, latest use first
 abbrev pub ways_of : ℕ → Cache → List ℕ
@@ -22,15 +22,15 @@ ways_of block c = slice_index_or (map recent (vec_items c.orders)) (block % (set
 
 -- the first line of its set that holds the block is at the place, and in the slot of the table
 pub record Lies (block : ℕ) (c : Cache) (place slot : ℕ) : Type 0 where
-  pub inside : place < length (set_of block c)
+  pub inside : place < length (block_set block c)
   pub way : slot ≡ 4 * (block % (settings_of c).sets) + slice_index (ways_of block c) place
   pub slotted : slot < length (table_of c)
-  pub line : get_or (set_of block c) place blank ≡ slice_index_or (table_of c) slot blank
-  pub holding : holds block (slice_index_or (set_of block c) place blank) ≡ true
-  pub before : AbsentBelow block (set_of block c) place
+  pub line : slice_index_or (block_set block c) place blank ≡ slice_index_or (table_of c) slot blank
+  pub holding : holds block (slice_index_or (block_set block c) place blank) ≡ true
+  pub before : AbsentBelow block (block_set block c) place
 
 abbrev pub Finds : ℕ → Cache → Option Found → Type 0
-Finds block c None = AbsentBelow block (set_of block c) (length (set_of block c))
+Finds block c None = AbsentBelow block (block_set block c) (length (block_set block c))
 Finds block c (Some f) = Lies block c f.place f.slot
 
 -- the order of use is the one after a use of the block, whose line is to lie in the slot
@@ -43,11 +43,11 @@ pub record ComesForward (block : ℕ) (before after : Cache) (slot : ℕ) : Type
 -- and the slot holds the block's line, if the set had one
 pub record Promotes (block : ℕ) (before after : Cache) (f : Front) : Type 0 where
   pub comes : ComesForward block before after f.slot
-  pub line : first (holds block) (set_of block before) ≡ cond f.present (Some (slice_index_or (table_of before) f.slot blank)) None
+  pub line : first (holds block) (block_set block before) ≡ cond f.present (Some (slice_index_or (table_of before) f.slot blank)) None
 
 -- the block's line, filled if it has to be, lies in the slot and is the first of its set
 pub record Brings (block : ℕ) (fill : List ℕ) (before after : Cache) (slot : ℕ) : Type 0 where
   pub settings : settings_of after ≡ settings_of before
   pub slotted : slot < vec_len after.table.lines
-  pub line : (l : Line) → l ≡ slice_index_or (table_of after) slot l → l ≡ forward fill block (first (holds block) (set_of block before))
+  pub line : (l : Line) → l ≡ slice_index_or (table_of after) slot l → l ≡ forward fill block (first (holds block) (block_set block before))
   pub sets : (l : Line) → sets_from (slice_set (table_of after) slot l) 0 (vec_items after.orders) ≡ on_set (settings_of before) block (λ ls. l ∷ behind (settings_of before).ways block ls) (sets_of before)

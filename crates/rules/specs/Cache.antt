@@ -137,8 +137,8 @@ set_for k block cache = slice_index_or cache (block % k.sets) []
 abbrev pub on_set : Settings → ℕ → (List Line → List Line) → List (List Line) → List (List Line)
 on_set k block change cache = slice_set cache (block % k.sets) (change (set_for k block cache))
 
-abbrev pub is_known : Settings → ℕ → ℕ → List (List Line) → Bool
-is_known k address size cache = known_in k address size (set_for k (block_of address) cache)
+abbrev pub is_load_known : Settings → ℕ → ℕ → List (List Line) → Bool
+is_load_known k address size cache = known_in k address size (set_for k (block_of address) cache)
 
 -- a load that isn't known flags its region
 abbrev pub loaded_in : Settings → List ℕ → ℕ → ℕ → List Line → List Line

@@ -2,7 +2,7 @@
 use Rattle.std.specs.Prelude.{◌≡◌, ℕ, suc, ◌+◌, ◌-◌, ◌*◌, ◌%◌, ◌^◌, ◌<◌, ◌≤◌, Bool, true, false, cond, not, ◌&&◌, ◌⊎◌, List, [], ◌∷◌, map, length, take, Some, None, Decides, Option, ◌==◌, ◌≢◌, nat_eq, nat_le, nat_lt, slice_index, slice_index_or}
 use Rattle.std.specs.List.{AllByRecursion}
 use Rattle.rules.specs.Bytes.{low_bytes}
-use Rattle.rules.specs.Cache.{less, first, holds, block_of, offset_of, region_from, region_size, empty_cache, set_for, is_aligned, is_known, loaded_value, Operation, load, store, invalidate, applied}
+use Rattle.rules.specs.Cache.{less, first, holds, block_of, offset_of, region_from, region_size, empty_cache, set_for, is_aligned, is_load_known, loaded_value, Operation, load, store, invalidate, applied}
 use Rattle.rules.specs.declared.cache.Line.{Line}
 use Rattle.rules.specs.declared.cache.Settings.{Settings}
 
@@ -73,7 +73,7 @@ FlagsHeld k = (history : List Operation) (block q : ℕ) → q < 16 → Decides 
 -- an aligned load is known exactly if every granule of its region is held
 abbrev pub KnownHeld : Settings → Type 0
 KnownHeld k = (history : List Operation) (address size : ℕ) → is_aligned address size ≡ true
-    → Decides (is_known k address size (after k history)) ((q : ℕ) → q < 16 → Covered k.granule (region_from k address size) (region_size k size) q → Held k (block_of address) q history)
+    → Decides (is_load_known k address size (after k history)) ((q : ℕ) → q < 16 → Covered k.granule (region_from k address size) (region_size k size) q → Held k (block_of address) q history)
 
 -- Marks: a line is stale exactly if its block was invalidated after its latest load or store.
 

@@ -2,7 +2,7 @@ ghost use Rattle.std.specs.Prelude.{◌≡◌, ◌%◌, ◌<◌, map, length, ve
 ghost use Rattle.std.specs.Option.{option_map};
 ghost use Rattle.rules.specs.Cache.{first, holds, invalidated_in, on_set};
 ghost use Rattle.rules.specs.CacheLaws.{blocks_in};
-ghost use Rattle.cache.specs.Lookup.{AbsentBelow, set_of, Lies, Finds, ComesForward, Promotes, Brings};
+ghost use Rattle.cache.specs.Lookup.{AbsentBelow, block_set, Lies, Finds, ComesForward, Promotes, Brings};
 ghost use Rattle.cache.specs.View.{settings_of, sets_of};
 
 use crate::line::{bring_in, make_stale};
@@ -56,7 +56,7 @@ impl Cache {
 
     // A slot comes forward for a block that the set lacks; a full set drops its last line.
     fn enter(&mut self, block: u32) -> usize
-        requires { AbsentBelow block (set_of block self.old) (length (set_of block self.old)) }
+        requires { AbsentBelow block (block_set block self.old) (length (block_set block self.old)) }
         ensures { ComesForward block self.old self.new result }
     {
         let set = self.set_of(block);
@@ -92,7 +92,7 @@ impl Cache {
     }
 
     pub(crate) fn line_of(&self, block: u32) -> Option<&Line>
-        ensures { option_map (λ x. x.now) result ≡ first (holds block) (set_of block self.now) }
+        ensures { option_map (λ x. x.now) result ≡ first (holds block) (block_set block self.now) }
     {
         match self.find(block) {
             Some(found) => Some(self.table.line(found.slot)),

@@ -1,5 +1,5 @@
 ghost use Rattle.std.specs.Prelude.{◌≡◌, map, IfOk};
-ghost use Rattle.rules.specs.Cache.{empty_cache, is_known, loaded_value, applied, load as load_of, store as store_of, invalidate as invalidate_of};
+ghost use Rattle.rules.specs.Cache.{empty_cache, is_load_known, loaded_value, applied, load as load_of, store as store_of, invalidate as invalidate_of};
 ghost use Rattle.rules.specs.CacheLaws.{blocks_in, CacheLaws};
 ghost use Rattle.cache.specs.View.{settings_of, sets_of};
 
@@ -38,7 +38,7 @@ impl Cache {
 
     // Whether a load is known, as asked before it is done.
     pub fn known(&self, access: Access) -> bool
-        ensures { result ≡ is_known (settings_of self.now) access.address access.size (sets_of self.now) }
+        ensures { result ≡ is_load_known (settings_of self.now) access.address access.size (sets_of self.now) }
     {
         match self.line_of(access.block()) {
             Some(line) => is_known(line, self.shape, access),
