@@ -1,13 +1,13 @@
 -- Bits of numbers, bits of bytes, and bits laid over others.
-use Rattle.std.proofs.Common.{◌≡◌, ℕ, zero, suc, ◌+◌, ◌-◌, ◌*◌, ◌/◌, ◌%◌, ◌^◌, ◌<◌, ◌≤◌, min, Bool, true, false, not, eqb, List, [], ◌∷◌, ◌++◌, length, get_or, take, drop, set, sym, refl, ap, ◌∙◌, subst, ap₂, append_assoc, append-nil, add-zero, suc-add, zero-add, add-one, arith, length-append, length-drop, take-append-drop, length-take, length-take-le, get_or-take, take-take, take_at, get_or-append-add, shr-shr}
+use Rattle.std.proofs.Common.{◌≡◌, ℕ, zero, suc, ◌+◌, ◌-◌, ◌*◌, ◌/◌, ◌%◌, ◌^◌, ◌<◌, ◌≤◌, min, Bool, true, false, not, eqb, List, [], ◌∷◌, ◌++◌, length, get_or, take, drop, set, sym, refl, ap, ◌∙◌, subst, ap₂, append-nil, add-zero, suc-add, zero-add, add-one, arith, length-drop, take-append-drop, length-take, length-take-le, get_or-take, take-take, get_or-append-add, shr-shr}
 use native.Mathlib.Nat.{pow-succ'}
 use lib.Bits.{bit_xor, block_half, block_odd, xor_shr, xor_mod, xor_zero_r}
 use lib.Pow.{mod-pow-add}
 use lib.Seq.{set-append_left}
-use Rattle.std.proofs.lemmas.List.{get_or_append_left, set-append_right, take_more_set, drop-set-lt}
+use Rattle.std.proofs.lemmas.List.{get_or_append_left, set-append_right}
 use Rattle.std.proofs.lemmas.Bool.{eqb-true, eqb-false, eq-eqb, ne_eqb}
 use Rattle.std.specs.List.{AllByRecursion}
-use Rattle.rules.specs.Bits.{is_odd, low_bits, bit, value_of, bits_of, bytes_of, overlay, bits_in}
+use Rattle.rules.specs.Bits.{is_odd, low_bits, bit, value_of, bits_of, bytes_of, bits_in}
 
 -- one number
 
@@ -135,24 +135,6 @@ set_bit (b ∷ bs) (suc q) r v x h l e =
 pub set-bits_of : (bs : List ℕ) (p v : ℕ) (x : Bool) → p < 8 * length bs → low_bits 8 v ≡ set (low_bits 8 (get_or bs (p / 8) 0)) (p % 8) x → bits_of (set bs (p / 8) v) ≡ set (bits_of bs) p x
 set-bits_of bs p v x h e = set_bit bs (p / 8) (p % 8) v x (omega arith) (omega arith) e ∙ ap (λ n. set (bits_of bs) n x) (omega arith)
 
--- bits laid over others
-
-pub length-overlay : (p : ℕ) (new old : List Bool) → p + length new ≤ length old → length (overlay p new old) ≡ length old
-length-overlay p new old h =
-    length-append (take p old) (new ++ drop (p + length new) old) ∙ omega (arith, length-append new (drop (p + length new) old), length-take p old, length-drop (p + length new) old)
-
-pub overlay_none : (p : ℕ) (old : List Bool) → overlay p [] old ≡ old
-overlay_none p old = ap (λ n. take p old ++ drop n old) (add-zero p) ∙ take-append-drop p old
-
-pub overlay-more : (p : ℕ) (b : Bool) (new old : List Bool) → p < length old → overlay p (b ∷ new) old ≡ overlay (p + 1) new (set old p b)
-overlay-more p b new old h =
-    let after : p + 1 + length new ≡ p + suc (length new) = omega arith in
-    let past : p < p + 1 + length new = omega arith in
-    sym
-    (ap₂ (λ (front back : List Bool). front ++ (new ++ back)) (take_more_set old p b h) (drop-set-lt (p + 1 + length new) old p b past)
-    ∙ append_assoc (take p old) (b ∷ []) (new ++ drop (p + 1 + length new) old)
-    ∙ ap (λ n. take p old ++ (b ∷ (new ++ drop n old))) after)
-
 pub value_of_push : (bs : List Bool) (b : Bool) → value_of (bs ++ b ∷ []) ≡ value_of bs + bit b * 2 ^ length bs
 value_of_push [] b = omega arith
 value_of_push (x ∷ bs) b = omega (arith, value_of_push bs b, ap (λ n. bit b * n) (pow-succ' 2 (length bs)))
@@ -167,8 +149,3 @@ take-bits_in k bytes h = take-take k (2 ^ 64 - 1) (bits_of bytes) (omega (arith,
 pub get_or-bits_in : (bytes : List ℕ) (p : ℕ) → p < length (bits_in bytes) → get_or (bits_in bytes) p false ≡ get_or (bits_of bytes) p false
 unfolding bits_in
 get_or-bits_in bytes p h = get_or-take (2 ^ 64 - 1) (bits_of bytes) p false (omega (arith, length-take (2 ^ 64 - 1) (bits_of bytes)))
-
-pub take-overlay : (p : ℕ) (new old : List Bool) → p ≤ length old → take (p + length new) (overlay p new old) ≡ take p old ++ new
-take-overlay p new old h =
-    let front : length (take p old ++ new) ≡ p + length new = length-append (take p old) new ∙ ap (λ n. n + length new) (length-take-le p old h) in
-    ap (take (p + length new)) (sym (append_assoc (take p old) new (drop (p + length new) old))) ∙ take_at (take p old ++ new) (drop (p + length new) old) (p + length new) front

@@ -6,12 +6,14 @@ use Rattle.std.proofs.ByRecursion.{All-get_or}
 use Rattle.std.proofs.lemmas.List.{length-take, length-map, get_or-replicate, get_or-map, get_or-take}
 use Rattle.std.proofs.lemmas.Bool.{cond-false, cond_both, and_parts, eqb-true, eqb-false}
 use Rattle.std.specs.List.{AllByRecursion}
-use Rattle.rules.specs.Bytes.{low_bytes, number_of, stretch, overlay_bytes}
+use Rattle.rules.specs.Bytes.{low_bytes, number_of, stretch}
+use Rattle.rules.specs.Overlay.{overlay}
 use Rattle.rules.specs.Cache.{is_size, are_settings, block_of, offset_of, region_size, new_line, region_flagged, stored_in, read_in, first, less, holds, forward, promoted, invalidated_in, set_for, on_set, loaded_in, loaded_value, Operation, load, store, invalidate, applied}
 use Rattle.rules.specs.CacheLaws.{after, blocks_in, used_first, uses, LatestUses, Apart, SetsBounded, RegionsHold, StoresRead, CacheLaws}
 use Rattle.rules.specs.declared.cache.Line.{Line}
 use Rattle.rules.specs.declared.cache.Settings.{Settings}
-use Rattle.rules.proofs.Bytes.{length-low_bytes, number_of-low_bytes, stretch-overlay_bytes}
+use Rattle.rules.proofs.Bytes.{length-low_bytes, number_of-low_bytes}
+use Rattle.rules.proofs.Overlay.{overlay_at}
 use Rattle.rules.proofs.Flags.{size_some, granule_size, sets_bounds, ways_bounds, region_fits, region_before, region_covers, region_size_granule, region_least}
 use Rattle.rules.proofs.Sets.{all_less, all_forward, take_less, blocks_invalidated, blocks_promoted, forward_fresh, first-promoted}
 use Rattle.rules.proofs.Steps.{set_changed, set_kept, loaded_is, length-applied, length-after, others_law, Sixteen, aligned_fits, sixteen_after}
@@ -107,8 +109,8 @@ module _ (k : Settings) (fill fill' : List ℕ) (address size value : ℕ) (fits
   store_read ls long =
       ap (λ o. read_in address size (forward fill' (block_of address) o)) (first-promoted k fill (block_of address) (stored_in k address size value) ls (λ l. refl))
       ∙ ap (read_in address size) (cond-false front.stale (new_line fill' front.block) (stored_in k address size value front) (forward_fresh fill (block_of address) (first (holds (block_of address)) ls)))
-      ∙ ap (λ n. number_of (stretch (offset_of address) n (overlay_bytes (offset_of address) (low_bytes size value) front.bytes))) (sym (length-low_bytes size value))
-      ∙ ap number_of (stretch-overlay_bytes (offset_of address) (low_bytes size value) front.bytes (omega (arith, length-low_bytes size value, long)))
+      ∙ ap (λ n. number_of (stretch (offset_of address) n (overlay (offset_of address) (low_bytes size value) front.bytes))) (sym (length-low_bytes size value))
+      ∙ ap number_of (overlay_at (offset_of address) (low_bytes size value) front.bytes (omega (arith, length-low_bytes size value, long)))
       ∙ number_of-low_bytes size value
     where
       front : Line

@@ -3,8 +3,10 @@ use Rattle.std.proofs.Common.{◌≡◌, ℕ, ◌+◌, ◌<◌, ◌≤◌, Bool,
 use Rattle.std.proofs.lemmas.Bool.{cond-true, cond-false, le-leb, lt-leb, le-ltb, leb-true, leb-false, ltb-false}
 use Rattle.rules.specs.declared.count.WriteRefusal.{WriteRefusal}
 use Rattle.rules.specs.declared.count.WriteRefusal.TheVariants.{AboveTop, NoRoom}
-use Rattle.rules.specs.Bits.{bits_of, bytes_of, bits_in, overlay}
-use Rattle.rules.proofs.Bits.{length-bits_of, length-bits_in, length-overlay, bits_of-bytes_of, take-bits_in, take-overlay}
+use Rattle.rules.specs.Bits.{bits_of, bytes_of, bits_in}
+use Rattle.rules.specs.Overlay.{overlay}
+use Rattle.rules.proofs.Bits.{length-bits_of, length-bits_in, bits_of-bytes_of, take-bits_in}
+use Rattle.rules.proofs.Overlay.{length-overlay, take-overlay}
 use Rattle.rules.specs.Calls.{room, laid, write_answer, bytes_written}
 use Rattle.rules.specs.Meaning.{Meaning}
 

@@ -5,5 +5,6 @@ pub mod Calls
 pub mod FlagLaws
 pub mod Flags
 pub mod LineLaws
+pub mod Overlay
 pub mod Sets
 pub mod Steps

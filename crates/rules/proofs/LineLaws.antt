@@ -7,7 +7,8 @@ use Rattle.rules.specs.Cache.{block_of, offset_of, new_line, forward, set_for, f
 use Rattle.rules.specs.CacheLaws.{after, fresh_line, line_for, block_of_operation, invalidated_since, MarksSince, found_byte, byte_since, BytesSince}
 use Rattle.rules.specs.declared.cache.Line.{Line}
 use Rattle.rules.specs.declared.cache.Settings.{Settings}
-use Rattle.rules.proofs.Bytes.{length-low_bytes, get_or-overlay_bytes}
+use Rattle.rules.proofs.Bytes.{length-low_bytes}
+use Rattle.rules.proofs.Overlay.{get_or-overlay}
 use Rattle.rules.proofs.Sets.{all_forward, forward_fresh, staled_line}
 use Rattle.rules.proofs.Steps.{Sixteen, aligned_fits, sixteen_after, others_law, line_loaded, line_stored, line_staled}
 
@@ -85,7 +86,7 @@ module _ (k : Settings) (some-sets : 1 ≤ k.sets) where
       let written = get_or (low_bytes size value) (p - from) 0 in
       cond_both (eqb b block) (cond (leb from p && ltb p (from + size)) written (found_byte k block p fill earlier own)) own (λ n. get_or l.bytes p 0 ≡ n)
       (λ t. ap (λ (m : Line). get_or m.bytes p 0) (some_same (sym e ∙ line_stored k some-sets earlier block fill address size value (eqb-true b block t)))
-      ∙ get_or-overlay_bytes from size (low_bytes size value) front.bytes p 0 (length-low_bytes size value) (omega arith)
+      ∙ get_or-overlay from size (low_bytes size value) front.bytes p 0 (length-low_bytes size value) (omega arith)
       ∙ ap (cond (leb from p && ltb p (from + size)) written) (forward_byte fill b p own (line_for k block (after k earlier)) before))
       (λ f. byte_kept (store fill address size value) earlier block p own (eqb-false b block f) before l e)
   bytes_law (invalidate address ∷ earlier) given block p l h e =

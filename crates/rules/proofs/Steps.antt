@@ -8,7 +8,8 @@ use Rattle.rules.specs.Cache.{is_size, is_aligned, block_of, offset_of, region_s
 use Rattle.rules.specs.CacheLaws.{after, line_for, block_of_operation, OthersKept, Given}
 use Rattle.rules.specs.declared.cache.Line.{Line}
 use Rattle.rules.specs.declared.cache.Settings.{Settings}
-use Rattle.rules.proofs.Bytes.{length-low_bytes, length-overlay_bytes}
+use Rattle.rules.proofs.Bytes.{length-low_bytes}
+use Rattle.rules.proofs.Overlay.{length-overlay}
 use Rattle.rules.proofs.Flags.{length-flagged, flagged_known, offset_fits}
 use Rattle.rules.proofs.Sets.{all_promoted, all_invalidated, first-promoted, first-promoted_other, first_invalidated, first_invalidated_other, staled_line}
 
@@ -154,7 +155,7 @@ module _ (k : Settings) (some-sets : 1 ≤ k.sets) where
   sixteen_after (store fill address size value ∷ earlier) given s h =
       all_on_set k (block_of address) (promoted k fill (block_of address) (stored_in k address size value)) (after k earlier) s Sixteen (omega (arith, length-after k earlier))
       (all_promoted Sixteen k fill (block_of address) (stored_in k address size value) (λ c. given.0.0)
-      (λ l e. length-overlay_bytes (offset_of address) (low_bytes size value) l.bytes (omega (arith, length-low_bytes size value, aligned_fits address size given.0.1)) ∙ e)) (sixteen_after earlier given.1 s h)
+      (λ l e. length-overlay (offset_of address) (low_bytes size value) l.bytes (omega (arith, length-low_bytes size value, aligned_fits address size given.0.1)) ∙ e)) (sixteen_after earlier given.1 s h)
   sixteen_after (invalidate address ∷ earlier) given s h =
       all_on_set k (block_of address) (invalidated_in (block_of address)) (after k earlier) s Sixteen (omega (arith, length-after k earlier))
       (all_invalidated Sixteen (block_of address) (λ l e. e)) (sixteen_after earlier given.1 s h)

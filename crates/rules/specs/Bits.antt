@@ -1,5 +1,5 @@
 -- Bits and bytes. Bits fill a byte from its lowest, and a list of bits has the lowest first.
-use Rattle.std.specs.Prelude.{ℕ, zero, suc, ◌+◌, ◌-◌, ◌*◌, ◌/◌, ◌%◌, ◌^◌, Bool, true, false, List, [], ◌∷◌, ◌++◌, length, take, drop, ◌==◌}
+use Rattle.std.specs.Prelude.{ℕ, zero, suc, ◌+◌, ◌-◌, ◌*◌, ◌/◌, ◌%◌, ◌^◌, Bool, true, false, List, [], ◌∷◌, ◌++◌, take, drop, ◌==◌}
 
 abbrev pub is_odd : ℕ → Bool
 is_odd n = n % 2 == 1
@@ -26,10 +26,6 @@ bits_of (b ∷ bs) = low_bits 8 b ++ bits_of bs
 abbrev pub bytes_of : ℕ → List Bool → List ℕ
 bytes_of zero bs = []
 bytes_of (suc k) bs = value_of (take 8 bs) ∷ bytes_of k (drop 8 bs)
-
--- old, with new over it from the place on
-abbrev pub overlay : ℕ → List Bool → List Bool → List Bool
-overlay place new old = take place old ++ (new ++ drop (place + length new) old)
 
 -- The bits of a buffer that have a place after them: a place is a machine word. No real buffer has as many.
 unfoldable pub bits_in : List ℕ → List Bool

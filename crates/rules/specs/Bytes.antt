@@ -1,5 +1,5 @@
 -- Numbers in bytes, lowest byte first.
-use Rattle.std.specs.Prelude.{ℕ, zero, suc, ◌+◌, ◌*◌, ◌/◌, ◌%◌, List, [], ◌∷◌, ◌++◌, length, take, drop}
+use Rattle.std.specs.Prelude.{ℕ, zero, suc, ◌+◌, ◌*◌, ◌/◌, ◌%◌, List, [], ◌∷◌, take, drop}
 
 -- the k lowest bytes of n
 abbrev pub low_bytes : ℕ → ℕ → List ℕ
@@ -14,7 +14,3 @@ number_of (b ∷ bs) = b + 256 * number_of bs
 -- the stretch of `size` bytes from a place on
 abbrev pub stretch : ℕ → ℕ → List ℕ → List ℕ
 stretch from size bytes = take size (drop from bytes)
-
--- old, with new over it from the place on
-abbrev pub overlay_bytes : ℕ → List ℕ → List ℕ → List ℕ
-overlay_bytes place new old = take place old ++ (new ++ drop (place + length new) old)

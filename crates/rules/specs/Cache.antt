@@ -1,6 +1,7 @@
 -- The first-access cache: a list of sets, each a list of lines, latest use first.
 use Rattle.std.specs.Prelude.{ℕ, suc, ◌+◌, ◌-◌, ◌*◌, ◌/◌, ◌%◌, max, Bool, true, false, cond, not, ◌&&◌, ◌||◌, List, [], ◌∷◌, take, replicate, Some, None, Option, ◌==◌, nat_le, slice_index_or, slice_set}
-use Rattle.rules.specs.Bytes.{low_bytes, number_of, stretch, overlay_bytes}
+use Rattle.rules.specs.Bytes.{low_bytes, number_of, stretch}
+use Rattle.rules.specs.Overlay.{overlay}
 use Rattle.rules.specs.declared.cache.Line.{Line}
 use Rattle.rules.specs.declared.cache.Settings.{Settings}
 
@@ -72,7 +73,7 @@ flagged_line k from size l = record { block = l.block; bytes = l.bytes; flags = 
 
 -- bytes are written from a place of the line on
 abbrev pub overwritten : ℕ → List ℕ → Line → Line
-overwritten from new l = record { block = l.block; bytes = overlay_bytes from new l.bytes; flags = l.flags; stale = l.stale }
+overwritten from new l = record { block = l.block; bytes = overlay from new l.bytes; flags = l.flags; stale = l.stale }
 
 abbrev pub region_flagged : Settings → ℕ → ℕ → Line → Line
 region_flagged k address size = flagged_line k (region_from k address size) (region_size k size)

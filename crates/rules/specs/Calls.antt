@@ -5,8 +5,9 @@ use Rattle.rules.specs.declared.count.CountFault.TheVariants.{Cut, Bad}
 use Rattle.rules.specs.declared.count.Counted.{Counted}
 use Rattle.rules.specs.declared.count.WriteRefusal.{WriteRefusal}
 use Rattle.rules.specs.declared.count.WriteRefusal.TheVariants.{AboveTop, NoRoom}
-use Rattle.rules.specs.Bits.{bits_of, bytes_of, bits_in, overlay}
+use Rattle.rules.specs.Bits.{bits_of, bytes_of, bits_in}
 use Rattle.rules.specs.Meaning.{Meaning, Reading, number, cut, bad}
+use Rattle.rules.specs.Overlay.{overlay}
 
 abbrev pub writing_number : WriteRefusal → ℕ
 writing_number AboveTop = 6

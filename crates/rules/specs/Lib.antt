@@ -4,5 +4,6 @@ pub mod Cache
 pub mod CacheLaws
 pub mod Meaning
 pub mod Calls
+pub mod Overlay
 pub mod Program
 pub mod Views

@@ -38,11 +38,12 @@ pub enum WriteRefusal {
     NoRoom,
 }
 
-impl WriteRefusal {
-    pub fn number(self) -> u8
-        ensures { result ≡ writing_number self }
-    {
-        match self {
+// The number by which a refusal is told.
+impl From<WriteRefusal> for u8 {
+    ghost from_gives = { λ refusal r. r ≡ writing_number refusal };
+
+    fn from(refusal: WriteRefusal) -> u8 {
+        match refusal {
             WriteRefusal::AboveTop => 6,
             WriteRefusal::NoRoom => 7,
         }
