@@ -1,37 +1,10 @@
 -- Hexadecimal digits, read and written.
-use Rattle.std.proofs.Common.{◌≡◌, ℕ, zero, suc, ◌+◌, ◌-◌, ◌*◌, ◌/◌, ◌%◌, ◌^◌, ◌<◌, ◌≤◌, Bool, true, false, ltb, leb, List, [], ◌∷◌, ◌++◌, length, get_or, drop, Some, None, sym, refl, ap, ◌∙◌, subst, ⊎_elim, append_assoc, mod-eq_of_lt, arith, pow_pos, pow_mono, pow-add}
+use Rattle.std.proofs.Common.{◌≡◌, ℕ, zero, suc, ◌+◌, ◌*◌, ◌/◌, ◌%◌, ◌^◌, ◌<◌, ◌≤◌, max, ltb, leb, List, [], ◌∷◌, ◌++◌, length, Some, None, sym, refl, ap, ◌∙◌, subst, ⊎_elim, append_assoc, mod-eq_of_lt, arith, pow_pos, pow_mono, pow-add}
 use native.Mathlib.Nat.{pow-succ'}
 use lib.Arith.{mod-mul}
-use Rattle.std.proofs.lemmas.List.{drop_more}
-use Rattle.std.proofs.lemmas.Bool.{cond-true, cond-false, cond_both, and_from, and_parts, cases_lt, leb-true, le-leb, le-ltb, lt-ltb}
+use Rattle.std.proofs.lemmas.Bool.{cond-true, cond-false, cond_both, and_from, cases_lt, le-leb, le-ltb, lt-ltb}
 use Rattle.std.proofs.lemmas.Bool.Decides.{nat_tests}
 use Rattle.text.specs.Hex.{between, digit_of, digits_after, at_most, number_in, digit_char, hex_digits, width_from, hex_width, hex_text}
-
-some_same : (x y : ℕ) → Some x ≡ Some y → x ≡ y
-some_same x y e = cc
-
-none≢some : (x : ℕ) → None ≡ Some x → ⊥
-none≢some x e = let z : ◌≡◌ {A = ℕ} 0 1 = cc in omega arith
-
-pub digit_below : (c d : ℕ) → digit_of c ≡ Some d → d < 16
-digit_below c d e = go (between 48 57 c) refl (between 65 70 c) refl
-  where
-    go : (a : Bool) → between 48 57 c ≡ a → (b : Bool) → between 65 70 c ≡ b → d < 16
-    go true p b q =
-        let h = and_parts (leb 48 c) (leb c 57) p in
-        omega (arith, leb-true 48 c h.0, leb-true c 57 h.1, some_same _ _ (sym e ∙ cond-true (between 48 57 c) _ _ p))
-    go false p true q =
-        let h = and_parts (leb 65 c) (leb c 70) q in
-        omega (arith, leb-true 65 c h.0, leb-true c 70 h.1, some_same _ _ (sym e ∙ cond-false (between 48 57 c) _ _ p ∙ cond-true (between 65 70 c) _ _ q))
-    go false p false q = absurd (none≢some d (sym (cond-false (between 48 57 c) _ _ p ∙ cond-false (between 65 70 c) _ _ q) ∙ e))
-
--- one digit more
-module _ (value : ℕ) (word : List ℕ) (i : ℕ) (h : i < length word) where
-  pub digit_goes : (d : ℕ) → digit_of (get_or word i 0) ≡ Some d → digits_after value (drop i word) ≡ digits_after (16 * value + d) (drop (i + 1) word)
-  digit_goes d e = ap (digits_after value) (drop_more word i 0 h) ∙ ap (λ o. elim o [ Some x ↦ digits_after (16 * value + x) (drop (i + 1) word) | None ↦ None ]) e
-
-  pub digit_ends : digit_of (get_or word i 0) ≡ None → digits_after value (drop i word) ≡ None
-  digit_ends e = ap (digits_after value) (drop_more word i 0 h) ∙ ap (λ o. elim o [ Some x ↦ digits_after (16 * value + x) (drop (i + 1) word) | None ↦ None ]) e
 
 pub sixteen : (k : ℕ) → 16 ^ k ≡ 2 ^ (4 * k)
 sixteen zero = refl
@@ -40,14 +13,16 @@ sixteen (suc k) = omega (arith, sixteen k, pow-succ' 16 k, ap (λ n. 2 ^ n) (fou
     four : (k : ℕ) → 4 * suc k ≡ 4 + 4 * k
     four k = omega arith
 
-pub digits_more : (text : List ℕ) (count done value : ℕ) → done < count → (text ++ digit_char (value / 16 ^ (count - done - 1) % 16) ∷ []) ++ hex_digits (count - (done + 1)) value ≡ text ++ hex_digits (count - done) value
-digits_more text count done value h =
-    let k = count - (done + 1) in
-    let now : count - done ≡ suc k = omega arith in
-    let same : count - done - 1 ≡ k = omega arith in
-    append_assoc text (digit_char (value / 16 ^ (count - done - 1) % 16) ∷ []) (hex_digits k value)
-    ∙ ap (λ j. text ++ (digit_char (value / 16 ^ j % 16) ∷ hex_digits k value)) same
-    ∙ ap (λ n. text ++ hex_digits n value) (sym now)
+-- the next digit, and those after it
+positive : (k : ℕ) → 0 < 16 ^ k
+positive k = omega (arith, sixteen k, pow_pos (4 * k))
+
+-- the next digit, and those after it
+pub digits_more : (text : List ℕ) (place k value : ℕ) → place ≡ suc k → (text ++ digit_char (value / 2 ^ (4 * k) % 16) ∷ []) ++ hex_digits k value ≡ text ++ hex_digits place value
+digits_more text place k value is =
+    append_assoc text (digit_char (value / 2 ^ (4 * k) % 16) ∷ []) (hex_digits k value)
+    ∙ ap (λ p. text ++ (digit_char (value / p % 16) ∷ hex_digits k value)) (sym (sixteen k))
+    ∙ ap (λ n. text ++ hex_digits n value) (sym is)
 
 pub digits_grow : (value d i : ℕ) → value < 16 ^ i → d < 16 → 16 * value + d < 16 ^ (i + 1)
 digits_grow value d i below small = omega (arith, below, small, pow-add 16 i 1)
@@ -75,13 +50,10 @@ digits_read : (k n value : ℕ) → digits_after value (hex_digits k n) ≡ Some
 digits_read zero n value = ap Some (omega arith)
 digits_read (suc k) n value =
     let d = n / 16 ^ k % 16 in
-    let split : n % (16 * 16 ^ k) ≡ (n / 16 ^ k % 16) * 16 ^ k + n % 16 ^ k = mod-mul n {m = 16} {c = 16 ^ k} (omega arith) (pow_pos' k) in
+    let split : n % (16 * 16 ^ k) ≡ (n / 16 ^ k % 16) * 16 ^ k + n % 16 ^ k = mod-mul n {m = 16} {c = 16 ^ k} (omega arith) (positive k) in
     ap (λ o. elim o [ Some x ↦ digits_after (16 * value + x) (hex_digits k n) | None ↦ None ]) (char_digit d (omega arith))
     ∙ digits_read k n (16 * value + d)
     ∙ ap Some (omega (arith, split, ap (λ p. value * p) (pow-succ' 16 k), ap (λ p. n % p) (pow-succ' 16 k)))
-  where
-    pow_pos' : (k : ℕ) → 0 < 16 ^ k
-    pow_pos' k = omega (arith, sixteen k, pow_pos (4 * k))
 
 -- one digit, or one more than the rest has
 pub width_one : (most n : ℕ) → n < 16 → width_from (suc most) n ≡ 1
@@ -91,10 +63,6 @@ width_one most n h = cond-true (ltb n 16) _ _ (lt-ltb n 16 h)
 pub width_more : (most n : ℕ) → 16 ≤ n → width_from (suc most) n ≡ 1 + width_from most (n / 16)
 unfolding width_from
 width_more most n h = cond-false (ltb n 16) _ _ (le-ltb n 16 h)
-
-pub width_none : (most n : ℕ) → most ≡ 0 → width_from most n ≡ 0
-unfolding width_from
-width_none most n e = ap (λ k. width_from k n) e
 
 -- the digits hold the whole number, and are some
 record Wide (most n : ℕ) : Type 0 where
@@ -119,6 +87,16 @@ wide (suc most) n l h = ⊎_elim
     positive zero x p q = absurd (omega arith)
     positive (suc m) x p q = omega arith
 
+-- a number between two powers of 16 has as many digits as they say
+pub width_is : (most n k : ℕ) → n < 16 ^ suc most → 16 ^ k ≤ max n 1 → n < 16 * 16 ^ k → k + 1 ≡ width_from (suc most) n
+width_is most n zero fits least high = sym (width_one most n (omega arith))
+width_is zero n (suc k) fits least high = absurd (omega (arith, least, pow-succ' 16 k, positive k))
+width_is (suc most) n (suc k) fits least high =
+    let low : 16 * 16 ^ k ≤ max n 1 = omega (arith, least, pow-succ' 16 k) in
+    let large : 16 ≤ n = omega (arith, low, positive k) in
+    let rest : k + 1 ≡ width_from (suc most) (n / 16) = width_is most (n / 16) k (omega (arith, pow-succ' 16 (suc most))) (omega (arith, low)) (omega (arith, pow-succ' 16 k)) in
+    omega (arith, rest, width_more (suc most) n large)
+
 length-hex_digits : (k n : ℕ) → length (hex_digits k n) ≡ k
 length-hex_digits zero n = refl
 length-hex_digits (suc k) n = ap suc (length-hex_digits k n)
@@ -126,12 +104,12 @@ length-hex_digits (suc k) n = ap suc (length-hex_digits k n)
 pub width_few : (n : ℕ) → n < 2 ^ 64 → hex_width n ≤ 16
 width_few n h = (wide 16 n (omega arith) (omega arith)).few
 
-pub text_read : (n : ℕ) → n < 2 ^ 64 → number_in (2 ^ 64 - 1) (hex_text n) ≡ Some n
-text_read n h =
+pub text_read : (most n : ℕ) → most < 2 ^ 64 → n ≤ most → number_in most (hex_text n) ≡ Some n
+text_read most n h low =
     let r = wide 16 n (omega arith) (omega arith) in
     let k = width_from 16 n in
     let size = length-hex_digits k n in
     let value : 0 * 16 ^ k + n % 16 ^ k ≡ n = omega (arith, mod-eq_of_lt r.holds) in
-    number_is (2 ^ 64 - 1) (hex_text n) (omega (arith, r.some)) (omega (arith, r.few))
-    ∙ ap (at_most (2 ^ 64 - 1)) (digits_read k n 0 ∙ ap Some value)
-    ∙ cond-true (leb n (2 ^ 64 - 1)) _ _ (le-leb n (2 ^ 64 - 1) (omega arith))
+    number_is most (hex_text n) (omega (arith, r.some)) (omega (arith, r.few))
+    ∙ ap (at_most most) (digits_read k n 0 ∙ ap Some value)
+    ∙ cond-true (leb n most) _ _ (le-leb n most low)

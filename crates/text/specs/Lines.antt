@@ -44,6 +44,11 @@ abbrev pub no_lines : List (List ℕ) → Bool
 no_lines [] = true
 no_lines (l ∷ ls) = false
 
+-- the words of lines, with k lines before them
+abbrev pub cursors : List (List ℕ) → ℕ → List Cursor
+cursors [] k = []
+cursors (l ∷ ls) k = cursor l (k + 1) 0 ∷ cursors ls (k + 1)
+
 -- The word that starts at an index of a line. The next one starts, or should start, one space after it;
 -- past the line's end there is none.
 abbrev pub word_at : List ℕ → ℕ → List ℕ

@@ -1,6 +1,6 @@
 -- What the structs of lines and words stand for.
 use Rattle.std.specs.Prelude.{ℕ, List}
-use Rattle.text.specs.Lines.{Cursor, cursor, lines_of}
+use Rattle.text.specs.Lines.{Cursor, cursor, cursors, lines_of}
 use Rattle.text.specs.declared.lines.Lines.{Lines}
 use Rattle.text.specs.declared.words.Words.{Words}
 
@@ -13,3 +13,7 @@ lines_left l = lines_of l.rest.now
 -- how many lines were given out
 abbrev pub lines_given : Lines → ℕ
 lines_given l = l.number
+
+-- the words of the lines that are left, one after the other
+abbrev pub cursors_left : Lines → List Cursor
+cursors_left l = cursors (lines_left l) (lines_given l)

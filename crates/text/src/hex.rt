@@ -1,83 +1,99 @@
-ghost use Rattle.std.specs.Prelude.{◌≡◌, ◌-◌, ◌^◌, ◌<◌, min, IfOk, Some, string_bytes};
+ghost use Rattle.std.specs.Prelude.{◌≡◌, ℕ, ◌<◌, ◌≤◌, min, Some, IfSome};
 ghost use Rattle.text.specs.Hex.{digit_of, number_in, digit_char, hex_digits, hex_width, hex_text, hex_bytes};
 
-use std::alloc::{AllocError, Global};
+use std::fmt;
 
 pub fn digit_value(c: u8) -> Option<u64>
-    ensures { result ≡ digit_of c }
+    ensures is { result ≡ digit_of c }
+    ensures below { IfSome result (λ d. d < 16) }
 {
     match c {
-        b'0'..=b'9' => Some(u64::from(c) - 48),
-        b'A'..=b'F' => Some(u64::from(c) - 55),
+        b'0'..=b'9' => Some(u64::from(c - b'0')),
+        b'A'..=b'F' => Some(u64::from(c - b'A') + 10),
         _ => None,
     }
 }
 
 // The number that a word of 1 to 16 digits 0 to 9 and A to F says, if it is not above `most`.
+// The text of a number is read as that number.
+#[tactic(auto, using(crate::proofs::Digits::text_read))]
 pub fn number(word: &[u8], most: u64) -> Option<u64>
-    ensures { result ≡ number_in most word.now }
+    ensures is { result ≡ number_in most word.now }
+    ensures reads { (n : ℕ) → n ≤ most → number_in most (hex_text n) ≡ Some n }
 {
-    if word.len() < 1 || word.len() > 16 {
+    if !(1..=16).contains(&word.len()) {
         return None;
     }
     let mut value: u64 = 0;
     for c in word {
-        let digit = digit_value(*c)?;
-        value = 16 * value + digit;
+        value = 16 * value + digit_value(*c)?;
     }
-    if value <= most { Some(value) } else { None }
+    (value <= most).then_some(value)
 }
 
 fn digit_char(digit: u64) -> char
     requires { digit < 16 }
     ensures { result ≡ digit_char digit }
 {
-    let code = if digit < 10 { 48 + digit } else { 55 + digit };
-    char::from(code as u8)
-}
-
-// The `digits` lowest digits of a value, highest first; a value has 16.
-pub fn digits(heap: Global, digits: u32, value: u64) -> Result<String, AllocError>
-    ensures { IfOk result (λ s. string_bytes s ≡ hex_digits (min digits 16) value) }
-{
-    let count = digits.min(16);
-    let mut text = String::new(heap);
-    for done in 0..count {
-        let shift = 4 * (count - done - 1);
-        text.push(digit_char((value >> shift) % 16))?;
-    }
-    Ok(text)
+    let first = if digit < 10 { 48 } else { 55 };
+    char::from(first + digit as u8)
 }
 
 // How many digits a value has, one at least.
 pub fn width(value: u64) -> u32
     ensures { result ≡ hex_width value }
 {
-    let mut rest = value;
-    for done in 0..16u32 {
-        if rest < 16 {
-            return done + 1;
-        }
-        rest /= 16;
-    }
-    16
+    value.max(1).ilog(16) + 1
 }
 
-// A value in as many digits as it has. It is read as itself.
-pub fn text(heap: Global, value: u64) -> Result<String, AllocError>
-    ensures bytes { IfOk result (λ s. string_bytes s ≡ hex_text value) }
-    ensures reads { IfOk result (λ s. number_in (2 ^ 64 - 1) (string_bytes s) ≡ Some value) }
-{
-    digits(heap, width(value), value)
+// The `count` lowest digits of a value, highest first; a value has 16.
+#[derive(Clone, Copy)]
+pub struct Digits {
+    pub count: u32,
+    pub value: u64,
+}
+
+impl fmt::Display for Digits {
+    ghost output = { λ d. Some (hex_digits (min d.count 16) d.value) };
+
+    fn fmt<W: fmt::Write>(&self, f: &mut fmt::Formatter<W>) -> fmt::Result {
+        for place in (0..self.count.min(16)).rev() {
+            f.write_char(digit_char((self.value >> (4 * place)) % 16))?;
+        }
+        Ok(())
+    }
+}
+
+// A value in as many digits as it has.
+#[derive(Clone, Copy)]
+pub struct Hex(pub u64);
+
+impl fmt::Display for Hex {
+    ghost output = { λ h. Some (hex_text h.0) };
+
+    fn fmt<W: fmt::Write>(&self, f: &mut fmt::Formatter<W>) -> fmt::Result {
+        let value = self.0;
+        f.write(Digits {
+            count: width(value),
+            value,
+        })
+    }
 }
 
 // Two digits for each byte.
-pub fn bytes_text(heap: Global, bytes: &[u8]) -> Result<String, AllocError>
-    ensures { IfOk result (λ s. string_bytes s ≡ hex_bytes bytes.now) }
-{
-    let mut text = String::new(heap);
-    for b in bytes {
-        text.push_str(digits(heap, 2, u64::from(*b))?.as_str())?;
+#[derive(Clone, Copy)]
+pub struct HexBytes<'a>(pub &'a [u8]);
+
+impl fmt::Display for HexBytes<'_> {
+    ghost output = { λ b. Some (hex_bytes b.0.now) };
+
+    fn fmt<W: fmt::Write>(&self, f: &mut fmt::Formatter<W>) -> fmt::Result {
+        for byte in self.0 {
+            f.write(Digits {
+                count: 2,
+                value: u64::from(*byte),
+            })?;
+        }
+        Ok(())
     }
-    Ok(text)
 }

@@ -8,7 +8,7 @@ pub mod words;
 
 #[cfg(test)]
 mod tests {
-    use crate::hex;
+    use crate::hex::{self, Digits, Hex};
     use std::test::Fail;
 
     #[test]
@@ -25,9 +25,13 @@ mod tests {
     #[test]
     fn texts(rt: HostRuntime) -> Result<(), Fail> {
         let heap = rt.alloc();
-        assert!(rt; hex::text(heap, 0)?.as_str() == "0");
-        assert!(rt; hex::text(heap, u64::MAX)?.as_str() == "FFFFFFFFFFFFFFFF");
-        assert!(rt; hex::digits(heap, 4, 0x12A)?.as_str() == "012A");
+        assert!(rt; Hex(0).to_string(heap)?.as_str() == "0");
+        assert!(rt; Hex(u64::MAX).to_string(heap)?.as_str() == "FFFFFFFFFFFFFFFF");
+        let digits = Digits {
+            count: 4,
+            value: 0x12A,
+        };
+        assert!(rt; digits.to_string(heap)?.as_str() == "012A");
         Ok(())
     }
 }

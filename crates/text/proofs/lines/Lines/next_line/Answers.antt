@@ -1,32 +1,20 @@
-use Rattle.std.proofs.Common.{◌≡◌, ◌+◌, length, sym, ap, ◌∙◌}
-use Rattle.std.proofs.lemmas.List.{nil_from_length}
-use Rattle.std.proofs.lemmas.Bool.{eqb-true, eqb-false}
-use Rattle.text.specs.Lines.{lines_of, cursor, first_line, after_first, number_after}
-use Rattle.text.proofs.Marks.{no_lines_lem, line_is, lines_split, rest_is}
+use Rattle.std.proofs.Common.{◌≡◌, ◌+◌, length, drop, sym, refl, ap, Bor, ◌∙◌, rules}
+use Rattle.std.specs.Prelude.{List, ◌∷◌, ℕ}
+use Rattle.text.specs.Lines.{up_to, lines_of, after_first}
+use Rattle.text.proofs.Marks.{lines_are, left_after}
 use Rattle.text.proofs.lines.Lines.next_line.Goals as goal
 
-pub returns-then-is_empty : goal.returns-then-is_empty
-returns-then-is_empty c =
-    let l = c.args.self.now in
-    let rest = l.rest.now in
-    let empty : length rest ≡ 0 = eqb-true (length rest) 0 (sym c.if-is_empty.ensures) in
-    let none = no_lines_lem rest empty in
-    record {
-      answer = c.new.ensures ∙ ap (λ bs. cursor bs (l.number + 1) 0) (nil_from_length rest empty) ∙ sym (ap (λ ls. first_line ls l.number) none);
-      lines = none ∙ sym (ap after_first none);
-      given = sym (ap (λ ls. number_after ls l.number) none);
-    }
+-- the text begins with a line
+split : (c : goal.After-new-2) → lines_of c.args.self.now.rest.now ≡ up_to 10 c.args.self.now.rest.now ∷ lines_of (drop (length (up_to 10 c.args.self.now.rest.now) + 1) c.args.self.now.rest.now)
+split c = lines_are c.args.self.now.rest.now (search rules)
 
-pub returns : goal.returns
-returns c =
-    let l = c.args.self.now in
-    let rest = l.rest.now in
-    let some : length rest ≡ 0 → ⊥ = eqb-false (length rest) 0 (sym c.if-is_empty.ensures) in
-    let end = c.find-end.result in
-    let next = c.min-next.result in
-    let split = lines_split rest end next some c.find-end.ensures.is in
-    record {
-      answer = c.new-2.ensures ∙ ap (λ bs. cursor bs (l.number + 1) 0) (line_is rest end next some c.find-end.ensures.is) ∙ sym (ap (λ ls. first_line ls l.number) split);
-      lines = ap lines_of (rest_is rest end next some c.find-end.ensures.is c.min-next.ensures) ∙ sym (ap after_first split);
-      given = sym (ap (λ ls. number_after ls l.number) split);
-    }
+pub returns-clause-answer : goal.returns-clause-answer
+returns-clause-answer c = search (rules, split c)
+
+pub returns-clause-lines : goal.returns-clause-lines
+returns-clause-lines c =
+    let rest : c.unwrap_or-self.result.now ≡ drop (length c.up_to-line.result.now + 1) c.args.self.now.rest.now = ap (λ (b : Bor (List ℕ)). b.now) c.unwrap_or-self.ensures ∙ left_after c.args.self.now.rest.now _ c.get.result _ refl c.get.ensures.lookup in
+    ap lines_of (rest ∙ ap (λ l. drop (length l + 1) c.args.self.now.rest.now) c.up_to-line.ensures) ∙ sym (ap after_first (split c))
+
+pub returns-clause-given : goal.returns-clause-given
+returns-clause-given c = search (rules, split c)
