@@ -62,16 +62,16 @@ next_count m sound ns i place bytes h back =
     }
 
 module _ (m : Meaning) (ns : List ℕ) (i place next : ℕ) (bytes : List ℕ) (h : i < length ns) (s : Seen m place (get_or ns i 0) next bytes) where
-  line_added : (text line after : List ℕ) → (text ++ line ++ 10 ∷ []) ++ after ≡ text ++ (line ++ (10 ∷ after))
-  line_added text line after = append_assoc (text ++ line) (10 ∷ []) after ∙ append_assoc text line (10 ∷ after)
+  line_added : (text line after : List ℕ) → (text ++ (line ++ 10 ∷ [])) ++ after ≡ text ++ (line ++ (10 ∷ after))
+  line_added text line after = append_assoc text (line ++ 10 ∷ []) after ∙ ap (λ l. text ++ l) (append_assoc line (10 ∷ []) after)
 
-  pub counts_more : (text : List ℕ) → (text ++ count_line (get_or ns i 0) (bits_between place next bytes) next ++ 10 ∷ []) ++ count_lines m (drop (i + 1) ns) next ≡ text ++ count_lines m (drop i ns) place
+  pub counts_more : (text : List ℕ) → (text ++ (count_line (get_or ns i 0) (bits_between place next bytes) next ++ 10 ∷ [])) ++ count_lines m (drop (i + 1) ns) next ≡ text ++ count_lines m (drop i ns) place
   counts_more text =
       line_added text (count_line (get_or ns i 0) (bits_between place next bytes) next) (count_lines m (drop (i + 1) ns) next)
       ∙ ap₂ (λ bits p. text ++ (count_line (get_or ns i 0) bits p ++ (10 ∷ count_lines m (drop (i + 1) ns) p))) s.bits_are s.next_is
       ∙ ap (λ l. text ++ count_lines m l place) (sym (drop_more ns i 0 h))
 
-  pub reads_more : (text : List ℕ) → (text ++ read_line (get_or ns i 0) next ++ 10 ∷ []) ++ read_lines m (drop (i + 1) ns) next ≡ text ++ read_lines m (drop i ns) place
+  pub reads_more : (text : List ℕ) → (text ++ (read_line (get_or ns i 0) next ++ 10 ∷ [])) ++ read_lines m (drop (i + 1) ns) next ≡ text ++ read_lines m (drop i ns) place
   reads_more text =
       line_added text (read_line (get_or ns i 0) next) (read_lines m (drop (i + 1) ns) next)
       ∙ ap (λ p. text ++ (read_line (get_or ns i 0) p ++ (10 ∷ read_lines m (drop (i + 1) ns) p))) s.next_is

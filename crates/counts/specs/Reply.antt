@@ -1,5 +1,7 @@
 -- What `counts` answers to an input.
-use Rattle.std.specs.Prelude.{ℕ, List, [], ◌∷◌, ◌++◌, Ok, Err}
+use Rattle.std.specs.Prelude.{ℕ, List, [], ◌∷◌, ◌++◌, Ok, Err, Result}
+use Rattle.rules.specs.Meaning.{Meaning}
+use Rattle.rules.specs.Views.{on_ok}
 use Rattle.codes.specs.Chunked.{chunked_made, chunked_meaning}
 use Rattle.codes.specs.Fixed.{fixed_made, fixed_meaning}
 use Rattle.codes.specs.Refusal.{making_number}
@@ -13,10 +15,14 @@ use Rattle.counts.specs.Request.{asked_by}
 abbrev pub refused_making : MakeRefusal → List ℕ
 refused_making e = refused_line (making_number e) ++ 10 ∷ []
 
--- the counts in the code that is asked for, or that it is refused
+-- the counts in a code that was made, or that it is refused
+abbrev pub answer_in : Result Meaning MakeRefusal → List ℕ → List ℕ
+answer_in (Ok m) counts = output_of m counts
+answer_in (Err e) counts = refused_making e
+
 abbrev pub answer_to : CodeAsked → List ℕ → List ℕ
-answer_to (Chunked first later) counts = elim (chunked_made first later) [ Ok made ↦ output_of (chunked_meaning made.0 made.1) counts | Err e ↦ refused_making e ]
-answer_to (Fixed width) counts = elim (fixed_made width) [ Ok made ↦ output_of (fixed_meaning made) counts | Err e ↦ refused_making e ]
+answer_to (Chunked first later) counts = answer_in (on_ok (λ made. chunked_meaning made.0 made.1) (chunked_made first later)) counts
+answer_to (Fixed width) counts = answer_in (on_ok fixed_meaning (fixed_made width)) counts
 
 abbrev pub reply_to : List ℕ → List ℕ
 reply_to text = elim (asked_by text) [ Ok asked ↦ answer_to asked.code asked.counts | Err place ↦ bad_line place ++ 10 ∷ [] ]

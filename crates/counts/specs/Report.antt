@@ -4,6 +4,8 @@ use Rattle.std.specs.Prelude.{ℕ, ◌-◌, Bool, cond, List, ◌++◌, map, len
 use Rattle.rules.specs.Bits.{bits_in}
 use Rattle.text.specs.Hex.{hex_text, hex_bytes}
 use Rattle.text.specs.declared.place.Place.{Place}
+use Rattle.counts.specs.declared.report.Line.{Line}
+use Rattle.counts.specs.declared.report.Line.TheVariants.{Count, Read, Bytes, Total, Refused, Bad}
 
 -- bits as 0s and 1s, in the order in which they were written
 abbrev pub bits_text : List Bool → List ℕ
@@ -30,3 +32,11 @@ refused_line number = codes "refused " ++ decimal number
 
 abbrev pub bad_line : Place → List ℕ
 bad_line place = codes "bad " ++ (decimal place.line ++ (codes " " ++ decimal place.column))
+
+abbrev pub line_text : Line → List ℕ
+line_text (Count count bits) = count_line count (bits_between bits.from bits.to bits.buffer.now) bits.to
+line_text (Read count place) = read_line count place
+line_text (Bytes bytes) = bytes_line bytes.now
+line_text (Total counts bits) = total_line counts bits
+line_text (Refused number) = refused_line number
+line_text (Bad place) = bad_line place

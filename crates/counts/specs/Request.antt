@@ -1,12 +1,12 @@
 -- What the input of `counts` asks for: a code on the first line, and then one count to a line.
-use Rattle.std.specs.Prelude.{◌≡◌, ℕ, ◌+◌, ◌-◌, ◌^◌, true, cond, List, [], ◌∷◌, ◌++◌, Ok, Err, vec_items, Result, Vec, ◌==◌}
+use Rattle.std.specs.Prelude.{◌≡◌, ℕ, ◌-◌, ◌^◌, true, cond, List, [], ◌∷◌, ◌++◌, Ok, Err, vec_items, Result, Vec, ◌==◌}
 use Rattle.std.specs.declared.alloc.Global.{Global}
-use Rattle.text.specs.Lines.{Cursor, cursor, lines_of, first_line, after_first, number_after, next_place, number_at, letter_at, is_end, past}
+use Rattle.text.specs.Lines.{Cursor, cursors, lines_of, first_line, after_first, number_after, next_place, number_at, letter_at, is_end, past}
 use Rattle.text.specs.declared.place.Place.{Place}
 use Rattle.counts.specs.declared.request.CodeAsked.{CodeAsked}
 use Rattle.counts.specs.declared.request.CodeAsked.TheVariants.{Chunked, Fixed}
 use Rattle.counts.specs.declared.request.ParseFault.{ParseFault}
-use Rattle.counts.specs.declared.request.ParseFault.TheVariants.{BadWord, Memory}
+use Rattle.counts.specs.declared.request.ParseFault.TheVariants.{BadWord, NoMemory}
 use Rattle.counts.specs.declared.request.Request.{Request}
 
 -- a number at the cursor, and how it goes on from the word after it
@@ -33,15 +33,15 @@ code_asked c = elim (letter_at c) [
 abbrev pub count_asked : Cursor → Result ℕ Place
 count_asked c = with_number (2 ^ 64 - 1) c ended
 
--- the counts of the lines after the first k, behind those that are done
-abbrev pub counts_asked : List ℕ → List (List ℕ) → ℕ → Result (List ℕ) Place
-counts_asked done [] k = Ok done
-counts_asked done (l ∷ ls) k = elim (count_asked (cursor l (k + 1) 0)) [ Ok n ↦ counts_asked (done ++ n ∷ []) ls (k + 1) | Err p ↦ Err p ]
+-- the counts of lines, one to a line, behind those that are done
+abbrev pub counts_asked : List ℕ → List Cursor → Result (List ℕ) Place
+counts_asked done [] = Ok done
+counts_asked done (c ∷ cs) = elim (count_asked c) [ Ok n ↦ counts_asked (done ++ n ∷ []) cs | Err p ↦ Err p ]
 
 abbrev pub TellsCounts : Result (Vec ℕ Global) ParseFault → Result (List ℕ) Place → Type 0
 TellsCounts (Ok v) asked = asked ≡ Ok (vec_items v)
 TellsCounts (Err (BadWord p)) asked = asked ≡ Err p
-TellsCounts (Err Memory) asked = Unit {0}
+TellsCounts (Err (NoMemory e)) asked = Unit {0}
 
 pub record Asked : Type 0 where
   pub code : CodeAsked
@@ -55,10 +55,10 @@ joined_asked code (Err p) = Err p
 abbrev pub asked_by : List ℕ → Result Asked Place
 asked_by text =
     let lines = lines_of text in
-    elim (code_asked (first_line lines 0)) [ Ok code ↦ joined_asked code (counts_asked [] (after_first lines) (number_after lines 0)) | Err p ↦ Err p ]
+    elim (code_asked (first_line lines 0)) [ Ok code ↦ joined_asked code (counts_asked [] (cursors (after_first lines) (number_after lines 0))) | Err p ↦ Err p ]
 
 -- an answer tells just that, unless memory is wanting
 abbrev pub Tells : Result Request ParseFault → Result Asked Place → Type 0
 Tells (Ok q) asked = asked ≡ Ok (record { code = q.code; counts = vec_items q.counts })
 Tells (Err (BadWord p)) asked = asked ≡ Err p
-Tells (Err Memory) asked = Unit {0}
+Tells (Err (NoMemory e)) asked = Unit {0}

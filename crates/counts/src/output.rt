@@ -1,13 +1,13 @@
-ghost use Rattle.std.specs.Prelude.{◌≡◌, ℕ, ◌+◌, ◌/◌, [], ◌∷◌, ◌++◌, IfOk, string_bytes, OnOk};
+ghost use Rattle.std.specs.Prelude.{◌≡◌, ℕ, IfOk, string_bytes};
 ghost use Rattle.codes.specs.Series.{ReadBack};
-ghost use Rattle.counts.specs.Output.{count_lines, read_lines, refused_text, output_in, output_of};
+ghost use Rattle.counts.specs.Output.{count_lines, read_lines, output_in, output_of};
 
-use crate::report;
+use crate::report::{Bits, Line};
 use codes::series::write_series;
-use rules::count::{CountCode, WriteRefusal};
+use rules::count::CountCode;
 use std::alloc::{AllocError, Global};
 
-// The counts of a buffer, as they were written and as they are read back.
+// The lines of a buffer's counts, as they were written and as they are read back.
 #[derive(Drop)]
 struct Listing {
     counts: String,
@@ -23,58 +23,23 @@ fn listed<C: CountCode>(
     requires { (end : ℕ) × ReadBack (C.CountCode.meaning code.now) counts.now 0 end buffer.now }
     ensures { IfOk result (λ l. (string_bytes l.counts ≡ count_lines (C.CountCode.meaning code.now) counts.now 0) × (string_bytes l.reads ≡ read_lines (C.CountCode.meaning code.now) counts.now 0)) }
 {
-    let mut written = String::new(heap);
-    let mut reads = String::new(heap);
-    let mut place = 0;
+    let mut listing = Listing {
+        counts: String::new(heap),
+        reads: String::new(heap),
+    };
+    let mut from = 0;
     for count in counts {
-        let Ok(read) = code.read(place, buffer) else {
-            return Ok(Listing {
-                counts: written,
-                reads,
-            });
+        let Ok(read) = code.read(from, buffer) else {
+            return Ok(listing);
         };
-        add_line(
-            &mut written,
-            report::count_line(heap, *count, place, read.next, buffer)?.as_str(),
-        )?;
-        add_line(
-            &mut reads,
-            report::read_line(heap, u64::from(read.number), read.next)?.as_str(),
-        )?;
-        place = read.next;
+        let (count, to) = (*count, read.next);
+        let bits = Bits { from, to, buffer };
+        writeln!(listing.counts, "{}", Line::Count { count, bits })?;
+        let count = u64::from(read.number);
+        writeln!(listing.reads, "{}", Line::Read { count, place: to })?;
+        from = to;
     }
-    Ok(Listing {
-        counts: written,
-        reads,
-    })
-}
-
-fn add_line(text: &mut String, line: &str) -> Result<(), AllocError>
-    ensures { OnOk result (string_bytes text.new ≡ string_bytes text.old ++ line.now ++ 10 ∷ []) }
-{
-    text.push_str(line)?;
-    text.push('\n')?;
-    Ok(())
-}
-
-fn add_refusal(
-    heap: Global,
-    text: &mut String,
-    refusal: Option<WriteRefusal>,
-) -> Result<(), AllocError>
-    ensures { OnOk result (string_bytes text.new ≡ string_bytes text.old ++ refused_text refusal) }
-{
-    match refusal {
-        Some(refusal) => add_line(text, report::refused_line(heap, refusal.number())?.as_str()),
-        None => Ok(()),
-    }
-}
-
-// How many bytes so many bits begin.
-fn bytes_for(bits: usize) -> usize
-    ensures { result ≡ (bits + 7) / 8 }
-{
-    bits / 8 + (bits % 8 + 7) / 8
+    Ok(listing)
 }
 
 // What is printed for counts that are written into a buffer.
@@ -91,18 +56,18 @@ fn shown<C: CountCode>(
     let Listing {
         counts: mut text,
         reads,
-    } = listed(heap, code, &counts[0..written], buffer)?;
-    add_refusal(heap, &mut text, series.refusal)?;
-    let size = bytes_for(series.next).min(buffer.len());
-    add_line(
-        &mut text,
-        report::bytes_line(heap, &buffer[0..size])?.as_str(),
-    )?;
+    } = listed(heap, code, &counts[..written], buffer)?;
+    if let Some(refusal) = series.refusal {
+        writeln!(text, "{}", Line::Refused(u8::from(refusal)))?;
+    }
+    let size = series.next.div_ceil(8).min(buffer.len());
+    writeln!(text, "{}", Line::Bytes(&buffer[..size]))?;
     text.push_str(reads.as_str())?;
-    add_line(
-        &mut text,
-        report::total_line(heap, series.written, series.next)?.as_str(),
-    )?;
+    let total = Line::Total {
+        counts: series.written,
+        bits: series.next,
+    };
+    writeln!(text, "{total}")?;
     Ok(text)
 }
 

@@ -1,22 +1,36 @@
 ghost use Rattle.std.specs.Prelude.{◌≡◌, [], ◌∷◌, ◌++◌, IfOk, string_bytes};
-ghost use Rattle.counts.specs.Report.{bad_line};
-ghost use Rattle.counts.specs.Reply.{refused_making, answer_to, reply_to};
+ghost use Rattle.rules.specs.Views.{on_ok};
+ghost use Rattle.counts.specs.Report.{line_text};
+ghost use Rattle.counts.specs.Reply.{answer_in, answer_to, reply_to};
 
 use crate::output::output;
-use crate::report;
+use crate::report::Line;
 use crate::request::{CodeAsked, ParseFault, Request, parse};
 use codes::chunked::Chunked;
 use codes::fixed::Fixed;
 use codes::refusal::MakeRefusal;
+use rules::count::CountCode;
 use std::alloc::{AllocError, Global};
-use text::place::Place;
 
-fn refused_making(heap: Global, refusal: MakeRefusal) -> Result<String, AllocError>
-    ensures { IfOk result (λ s. string_bytes s ≡ refused_making refusal) }
+// One line and no more.
+fn alone(heap: Global, line: Line) -> Result<String, AllocError>
+    ensures { IfOk result (λ s. string_bytes s ≡ line_text line.entry ++ 10 ∷ []) }
 {
-    let mut text = report::refused_line(heap, refusal.number())?;
-    text.push('\n')?;
-    Ok(text)
+    format!(in heap; "{line}\n")
+}
+
+// The counts in a code that was made, or that it is refused.
+fn answer_in<C: CountCode + Drop>(
+    heap: Global,
+    made: Result<C, MakeRefusal>,
+    counts: &[u64],
+) -> Result<String, AllocError>
+    ensures { IfOk result (λ s. string_bytes s ≡ answer_in (on_ok C.CountCode.meaning made) counts.now) }
+{
+    match made {
+        Ok(code) => output(heap, &code, counts),
+        Err(refusal) => alone(heap, Line::Refused(u8::from(refusal))),
+    }
 }
 
 fn answer(heap: Global, request: &Request) -> Result<String, AllocError>
@@ -24,14 +38,8 @@ fn answer(heap: Global, request: &Request) -> Result<String, AllocError>
 {
     let counts = request.counts.as_slice();
     match request.code {
-        CodeAsked::Chunked(first, later) => match Chunked::new(first, later) {
-            Ok(code) => output(heap, &code, counts),
-            Err(refusal) => refused_making(heap, refusal),
-        },
-        CodeAsked::Fixed(width) => match Fixed::new(width) {
-            Ok(code) => output(heap, &code, counts),
-            Err(refusal) => refused_making(heap, refusal),
-        },
+        CodeAsked::Chunked(first, later) => answer_in(heap, Chunked::new(first, later), counts),
+        CodeAsked::Fixed(width) => answer_in(heap, Fixed::new(width), counts),
     }
 }
 
@@ -41,15 +49,7 @@ pub fn reply(heap: Global, text: &[u8]) -> Result<String, AllocError>
 {
     match parse(heap, text) {
         Ok(request) => answer(heap, &request),
-        Err(ParseFault::BadWord(place)) => bad_word(heap, place),
-        Err(ParseFault::Memory) => Err(AllocError),
+        Err(ParseFault::BadWord(place)) => alone(heap, Line::Bad(place)),
+        Err(ParseFault::NoMemory(fault)) => Err(fault),
     }
-}
-
-fn bad_word(heap: Global, place: Place) -> Result<String, AllocError>
-    ensures { IfOk result (λ s. string_bytes s ≡ bad_line place ++ 10 ∷ []) }
-{
-    let mut text = report::bad_line(heap, place)?;
-    text.push('\n')?;
-    Ok(text)
 }

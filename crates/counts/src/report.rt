@@ -1,78 +1,61 @@
-ghost use Rattle.std.specs.Prelude.{◌≡◌, IfOk, if◌then◌else◌, string_bytes, nat_eq};
-ghost use Rattle.counts.specs.Report.{bits_text, bits_between, count_line, read_line, bytes_line, total_line, refused_line, bad_line};
+ghost use Rattle.std.specs.Prelude.{Some};
 
 use codes::reader::BitReader;
-use std::alloc::{AllocError, Global};
-use text::hex;
+use std::fmt;
+use text::hex::{Hex, HexBytes};
 use text::place::Place;
 
 // The bits of a buffer between two places, as 0s and 1s.
-pub fn bits_text(heap: Global, from: usize, to: usize, buffer: &[u8]) -> Result<String, AllocError>
-    ensures { IfOk result (λ s. string_bytes s ≡ bits_text (bits_between from to buffer.now)) }
-{
-    let count = to.saturating_sub(from);
-    let mut text = String::new(heap);
-    let mut reader = BitReader::new(buffer, from);
-    for done in 0..count {
-        let Ok(bit) = reader.take(1) else {
-            return Ok(text);
-        };
-        text.push(bit_char(bit))?;
+#[derive(Clone, Copy)]
+pub struct Bits<'a> {
+    pub from: usize,
+    pub to: usize,
+    pub buffer: &'a [u8],
+}
+
+impl fmt::Display for Bits<'_> {
+    ghost use Rattle.counts.specs.Report.{bits_text, bits_between};
+
+    ghost output = { λ b. Some (bits_text (bits_between b.from b.to b.buffer.now)) };
+
+    fn fmt<W: fmt::Write>(&self, f: &mut fmt::Formatter<W>) -> fmt::Result {
+        let mut reader = BitReader::new(self.buffer, self.from);
+        for _ in self.from..self.to {
+            let Ok(bit) = reader.take(1) else {
+                return Ok(());
+            };
+            write!(f, "{bit}")?;
+        }
+        Ok(())
     }
-    Ok(text)
 }
 
-fn bit_char(bit: u64) -> char
-    ensures { result ≡ (if nat_eq bit 1 then 49 else 48) }
-{
-    if bit == 1 { '1' } else { '0' }
+// A line that is printed.
+#[derive(Clone, Copy)]
+pub enum Line<'a> {
+    Count { count: u64, bits: Bits<'a> },
+    Read { count: u64, place: usize },
+    Bytes(&'a [u8]),
+    Total { counts: usize, bits: usize },
+    Refused(u8),
+    Bad(Place),
 }
 
-pub fn count_line(
-    heap: Global,
-    count: u64,
-    from: usize,
-    to: usize,
-    buffer: &[u8],
-) -> Result<String, AllocError>
-    ensures { IfOk result (λ s. string_bytes s ≡ count_line count (bits_between from to buffer.now) to) }
-{
-    let digits = hex::text(heap, count)?;
-    let bits = bits_text(heap, from, to, buffer)?;
-    format!(in heap; "count {digits} bits {bits} place {to}")
-}
+impl fmt::Display for Line<'_> {
+    ghost use Rattle.counts.specs.Report.{line_text};
 
-pub fn read_line(heap: Global, count: u64, place: usize) -> Result<String, AllocError>
-    ensures { IfOk result (λ s. string_bytes s ≡ read_line count place) }
-{
-    let digits = hex::text(heap, count)?;
-    format!(in heap; "read {digits} place {place}")
-}
+    ghost output = { λ line. Some (line_text line) };
 
-pub fn bytes_line(heap: Global, bytes: &[u8]) -> Result<String, AllocError>
-    ensures { IfOk result (λ s. string_bytes s ≡ bytes_line bytes.now) }
-{
-    let size = bytes.len();
-    let digits = hex::bytes_text(heap, bytes)?;
-    format!(in heap; "bytes {size} {digits}")
-}
-
-pub fn total_line(heap: Global, counts: usize, bits: usize) -> Result<String, AllocError>
-    ensures { IfOk result (λ s. string_bytes s ≡ total_line counts bits) }
-{
-    format!(in heap; "counts {counts} bits {bits}")
-}
-
-pub fn refused_line(heap: Global, number: u8) -> Result<String, AllocError>
-    ensures { IfOk result (λ s. string_bytes s ≡ refused_line number) }
-{
-    format!(in heap; "refused {number}")
-}
-
-pub fn bad_line(heap: Global, place: Place) -> Result<String, AllocError>
-    ensures { IfOk result (λ s. string_bytes s ≡ bad_line place) }
-{
-    let line = place.line;
-    let column = place.column;
-    format!(in heap; "bad {line} {column}")
+    fn fmt<W: fmt::Write>(&self, f: &mut fmt::Formatter<W>) -> fmt::Result {
+        match self {
+            Line::Count { count, bits } => {
+                write!(f, "count {} bits {bits} place {}", Hex(*count), bits.to)
+            }
+            Line::Read { count, place } => write!(f, "read {} place {place}", Hex(*count)),
+            Line::Bytes(bytes) => write!(f, "bytes {} {}", bytes.len(), HexBytes(bytes)),
+            Line::Total { counts, bits } => write!(f, "counts {counts} bits {bits}"),
+            Line::Refused(number) => write!(f, "refused {number}"),
+            Line::Bad(place) => write!(f, "bad {} {}", place.line, place.column),
+        }
+    }
 }

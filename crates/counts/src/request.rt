@@ -1,8 +1,8 @@
 ghost use Rattle.std.specs.Prelude.{◌≡◌, ◌-◌, ◌^◌, [], is_ok};
 ghost use Rattle.text.specs.Lines.{number_at, past};
-ghost use Rattle.text.specs.Views.{words_at, lines_left, lines_given};
+ghost use Rattle.text.specs.Views.{words_at, cursors_left};
 ghost use Rattle.counts.specs.Request.{chunked_asked, fixed_asked, code_asked, ended, count_asked, counts_asked, TellsCounts, Tells, asked_by};
-ghost use Rattle.counts.specs.declared.request.ParseFault.TheVariants.{BadWord, Memory};
+ghost use Rattle.counts.specs.declared.request.ParseFault.TheVariants.{BadWord, NoMemory};
 
 use std::alloc::{AllocError, AllocFailed, Global};
 use text::lines::Lines;
@@ -24,7 +24,7 @@ pub struct Request {
 #[derive(Clone, Copy)]
 pub enum ParseFault {
     BadWord(Place),
-    Memory,
+    NoMemory(AllocError),
 }
 
 impl From<Place> for ParseFault {
@@ -36,18 +36,18 @@ impl From<Place> for ParseFault {
 }
 
 impl From<AllocError> for ParseFault {
-    ghost from_gives = { λ _ r. r ≡ Memory };
+    ghost from_gives = { λ e r. r ≡ NoMemory e };
 
-    fn from(_e: AllocError) -> ParseFault {
-        ParseFault::Memory
+    fn from(e: AllocError) -> ParseFault {
+        ParseFault::NoMemory(e)
     }
 }
 
 impl<T: Drop> From<AllocFailed<T>> for ParseFault {
-    ghost from_gives = { λ _ r. r ≡ Memory };
+    ghost from_gives = { λ _ r. r ≡ NoMemory (record {}) };
 
-    fn from(_e: AllocFailed<T>) -> ParseFault {
-        ParseFault::Memory
+    fn from(e: AllocFailed<T>) -> ParseFault {
+        ParseFault::NoMemory(AllocError::from(e))
     }
 }
 
@@ -92,13 +92,11 @@ fn code_asked(words: &mut Words) -> Result<CodeAsked, Place>
 {
     let place = words.place();
     let letter = words.letter()?;
-    if letter == b'K' {
-        return chunked_asked(words);
+    match letter {
+        b'K' => chunked_asked(words),
+        b'F' => fixed_asked(words),
+        _ => Err(place),
     }
-    if letter == b'F' {
-        return fixed_asked(words);
-    }
-    Err(place)
 }
 
 fn count_asked(words: &mut Words) -> Result<u64, Place>
@@ -109,12 +107,11 @@ fn count_asked(words: &mut Words) -> Result<u64, Place>
     Ok(count)
 }
 
-fn counts_asked(heap: Global, lines: &mut Lines) -> Result<Vec<u64>, ParseFault>
-    ensures { TellsCounts result (counts_asked [] (lines_left lines.old) (lines_given lines.old)) }
+fn counts_asked(heap: Global, lines: Lines) -> Result<Vec<u64>, ParseFault>
+    ensures { TellsCounts result (counts_asked [] (cursors_left lines.entry)) }
 {
     let mut counts = Vec::new(heap);
-    while !lines.is_empty() {
-        let mut words = lines.next_line();
+    for mut words in lines {
         counts.push(count_asked(&mut words)?)?;
     }
     Ok(counts)
@@ -127,6 +124,6 @@ pub fn parse(heap: Global, text: &[u8]) -> Result<Request, ParseFault>
     let mut lines = Lines::new(text);
     let mut header = lines.next_line();
     let code = code_asked(&mut header)?;
-    let counts = counts_asked(heap, &mut lines)?;
+    let counts = counts_asked(heap, lines)?;
     Ok(Request { code, counts })
 }

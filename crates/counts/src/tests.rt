@@ -1,5 +1,5 @@
 use crate::reply::reply;
-use crate::report;
+use crate::report::{Bits, Line};
 use crate::request::{CodeAsked, ParseFault, parse};
 use std::alloc::Global;
 use std::process::Abort;
@@ -19,7 +19,7 @@ fn bad_at(
             assert_eq!(rt; place.column, column);
             Ok(())
         }
-        Err(ParseFault::Memory) => Err(Fail::new("no memory")),
+        Err(ParseFault::NoMemory(_)) => Err(Fail::new("no memory")),
         Ok(_) => Err(Fail::new("accepted")),
     }
 }
@@ -62,14 +62,37 @@ fn asked(rt: HostRuntime) -> Result<(), Fail> {
 #[test]
 fn lines(rt: HostRuntime) -> Result<(), Fail> {
     let heap = rt.alloc();
-    assert!(rt;
-        report::count_line(heap, 7, 2, 8, &[0x3C])?.as_str() == "count 7 bits 111100 place 8"
-    );
-    assert!(rt; report::read_line(heap, 300, 27)?.as_str() == "read 12C place 27");
-    assert!(rt; report::bytes_line(heap, &[7, 0xBC])?.as_str() == "bytes 2 07BC");
-    assert!(rt; report::total_line(heap, 5, 75)?.as_str() == "counts 5 bits 75");
-    assert!(rt; report::refused_line(heap, 7)?.as_str() == "refused 7");
-    assert!(rt; report::bad_line(heap, Place { line: 1, column: 3 })?.as_str() == "bad 1 3");
+    let bits = Bits {
+        from: 2,
+        to: 8,
+        buffer: &[0x3C],
+    };
+    let lines = [
+        (
+            Line::Count { count: 7, bits },
+            "count 7 bits 111100 place 8",
+        ),
+        (
+            Line::Read {
+                count: 300,
+                place: 27,
+            },
+            "read 12C place 27",
+        ),
+        (Line::Bytes(&[7, 0xBC]), "bytes 2 07BC"),
+        (
+            Line::Total {
+                counts: 5,
+                bits: 75,
+            },
+            "counts 5 bits 75",
+        ),
+        (Line::Refused(7), "refused 7"),
+        (Line::Bad(Place { line: 1, column: 3 }), "bad 1 3"),
+    ];
+    for (line, text) in lines {
+        assert!(rt; line.to_string(heap)?.as_str() == text);
+    }
     Ok(())
 }
 

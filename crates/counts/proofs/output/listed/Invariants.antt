@@ -7,6 +7,6 @@ abbrev pub invariant-loop-count : goal.invariant-loop-count
 invariant-loop-count g l =
     let m = g.C.CountCode.meaning l.code in
     let left = drop l.count-index l.counts in
-    (string_bytes l.written ++ count_lines m left l.place ≡ count_lines m l.counts 0)
-    × (string_bytes l.reads ++ read_lines m left l.place ≡ read_lines m l.counts 0)
-    × Back m left l.place l.buffer
+    (string_bytes l.listing.counts ++ count_lines m left l.from ≡ count_lines m l.counts 0)
+    × (string_bytes l.listing.reads ++ read_lines m left l.from ≡ read_lines m l.counts 0)
+    × Back m left l.from l.buffer
