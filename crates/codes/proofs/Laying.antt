@@ -1,8 +1,10 @@
 -- Bits laid over a buffer's one by one.
 use Rattle.std.proofs.Common.{◌≡◌, ℕ, suc, ◌+◌, ◌-◌, ◌/◌, ◌<◌, ◌≤◌, Bool, List, length, get_or, set, sym, ap, ◌∙◌, arith}
 use Rattle.std.proofs.ByRecursion.{All-from_get_or}
-use Rattle.rules.specs.Bits.{is_odd, low_bits, bits_of, bytes_of, overlay}
-use Rattle.rules.proofs.Bits.{overlay_none, overlay-more, bytes_of-bits_of}
+use Rattle.rules.specs.Bits.{is_odd, low_bits, bits_of, bytes_of}
+use Rattle.rules.specs.Overlay.{overlay}
+use Rattle.rules.proofs.Bits.{bytes_of-bits_of}
+use Rattle.rules.proofs.Overlay.{overlay_none, overlay-more}
 
 module _ (place count i rest : ℕ) (old : List Bool) where
   pub laying_more : i < count → place + i < length old

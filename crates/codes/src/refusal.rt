@@ -7,11 +7,12 @@ pub enum MakeRefusal {
     OutOfRange,
 }
 
-impl MakeRefusal {
-    pub fn number(self) -> u8
-        ensures { result ≡ making_number self }
-    {
-        match self {
+// The number by which a refusal is told.
+impl From<MakeRefusal> for u8 {
+    ghost from_gives = { λ refusal r. r ≡ making_number refusal };
+
+    fn from(refusal: MakeRefusal) -> u8 {
+        match refusal {
             MakeRefusal::OutOfRange => 1,
         }
     }

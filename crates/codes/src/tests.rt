@@ -7,17 +7,11 @@ use std::process::Abort;
 use std::test::Fail;
 
 fn chunked(first: u32, later: u32) -> Result<Chunked, Fail> {
-    match Chunked::new(first, later) {
-        Ok(code) => Ok(code),
-        Err(_) => Err(Fail::new("refused")),
-    }
+    Chunked::new(first, later).map_err(|_| Fail::new("refused"))
 }
 
 fn fixed(width: u32) -> Result<Fixed, Fail> {
-    match Fixed::new(width) {
-        Ok(code) => Ok(code),
-        Err(_) => Err(Fail::new("refused")),
-    }
+    Fixed::new(width).map_err(|_| Fail::new("refused"))
 }
 
 // A number that is written at a place is read there, and its bits end at `next`.
@@ -30,9 +24,9 @@ fn round<C: CountCode>(
 ) -> Result<(), Fail> {
     let mut buffer = [0xA5u8; 16];
     assert!(rt; code.write(u64::from(number), place, &mut buffer).ok() == Some(next));
-    let Ok(read) = code.read(place, &buffer) else {
-        return Err(Fail::new("not read"));
-    };
+    let read = code
+        .read(place, &buffer)
+        .map_err(|_| Fail::new("not read"))?;
     assert_eq!(rt; read.number, number);
     assert_eq!(rt; read.next, next);
     Ok(())
@@ -46,9 +40,9 @@ fn lengths_and_widths(rt: HostRuntime) {
     assert!(rt; Chunked::new(1, 6).is_ok() && Chunked::new(6, 1).is_ok());
     assert!(rt; Fixed::new(3).is_err() && Fixed::new(33).is_err());
     assert!(rt; Fixed::new(4).is_ok() && Fixed::new(32).is_ok());
-    assert_eq!(rt; MakeRefusal::OutOfRange.number(), 1);
-    assert_eq!(rt; WriteRefusal::AboveTop.number(), 6);
-    assert_eq!(rt; WriteRefusal::NoRoom.number(), 7);
+    assert_eq!(rt; u8::from(MakeRefusal::OutOfRange), 1);
+    assert_eq!(rt; u8::from(WriteRefusal::AboveTop), 6);
+    assert_eq!(rt; u8::from(WriteRefusal::NoRoom), 7);
 }
 
 #[test]

@@ -1,5 +1,6 @@
 use Rattle.std.proofs.Common.{◌≡◌, ◌+◌, ◌-◌, ◌/◌, ◌<◌, ◌≤◌, length, sym, ap, ◌∙◌, ap₂, arith}
-use Rattle.rules.specs.Bits.{low_bits, bits_of, bits_in, overlay}
+use Rattle.rules.specs.Bits.{low_bits, bits_of, bits_in}
+use Rattle.rules.specs.Overlay.{overlay}
 use Rattle.rules.proofs.Bits.{length-low_bits, length-bits_of, length-bits_in}
 use Rattle.rules.proofs.Calls.{room_is, no_room, laid_is, not_laid}
 use Rattle.codes.proofs.Laying.{laying_more, laying_done, filled}
