@@ -6,18 +6,14 @@ use Rattle.rules.specs.Overlay.{overlay}
 use Rattle.rules.proofs.Bits.{bytes_of-bits_of}
 use Rattle.rules.proofs.Overlay.{overlay_none, overlay-more}
 
-module _ (place count i rest : ℕ) (old : List Bool) where
-  pub laying_more : i < count → place + i < length old
-      → overlay (place + (i + 1)) (low_bits (count - (i + 1)) (rest / 2)) (set old (place + i) (is_odd rest)) ≡ overlay (place + i) (low_bits (count - i) rest) old
+module _ (at end rest : ℕ) (old : List Bool) where
+  pub laying_more : at < end → at < length old → overlay (at + 1) (low_bits (end - (at + 1)) (rest / 2)) (set old at (is_odd rest)) ≡ overlay at (low_bits (end - at) rest) old
   laying_more h within =
-      let left : count - i ≡ suc (count - (i + 1)) = omega arith in
-      let next : place + (i + 1) ≡ place + i + 1 = omega arith in
-      ap (λ p. overlay p (low_bits (count - (i + 1)) (rest / 2)) (set old (place + i) (is_odd rest))) next
-      ∙ sym (overlay-more (place + i) (is_odd rest) (low_bits (count - (i + 1)) (rest / 2)) old within)
-      ∙ ap (λ n. overlay (place + i) (low_bits n rest) old) (sym left)
+      let left : suc (end - (at + 1)) ≡ end - at = omega arith in
+      sym (overlay-more at (is_odd rest) (low_bits (end - (at + 1)) (rest / 2)) old within) ∙ ap (λ n. overlay at (low_bits n rest) old) left
 
-  pub laying_done : count ≤ i → overlay (place + i) (low_bits (count - i) rest) old ≡ old
-  laying_done h = let none : count - i ≡ 0 = omega arith in ap (λ n. overlay (place + i) (low_bits n rest) old) none ∙ overlay_none (place + i) old
+  pub laying_done : end ≤ at → overlay at (low_bits (end - at) rest) old ≡ old
+  laying_done h = let none : end - at ≡ 0 = omega arith in ap (λ n. overlay at (low_bits n rest) old) none ∙ overlay_none at old
 
 -- bytes that the bits fill, where the bits are those of a buffer of that length
 pub filled : (bytes : List ℕ) (n : ℕ) (bits : List Bool) → ((i : ℕ) → get_or bytes i 0 < 256) → n ≡ length bytes → bits ≡ bits_of bytes → bytes_of n bits ≡ bytes

@@ -1,12 +1,13 @@
 -- A word read bit by bit.
-use Rattle.std.proofs.Common.{◌≡◌, ℕ, ◌+◌, ◌*◌, ◌^◌, ◌<◌, ◌≤◌, min, Bool, true, false, cond, leb, List, length, get_or, take, drop, Ok, Err, Result, sym, refl, ap, ◌∙◌, arith, length-drop, length-take-le, get_or-drop, drop-drop}
-use Rattle.std.proofs.lemmas.List.{take_more}
+use Rattle.std.proofs.Common.{◌≡◌, ℕ, suc, ◌+◌, ◌*◌, ◌^◌, ◌<◌, ◌≤◌, min, Bool, true, false, cond, leb, List, length, get_or, take, drop, Ok, Err, Result, sym, refl, ap, ◌∙◌, arith, length-drop, length-take-le, get_or-drop, drop-drop}
+use Rattle.std.proofs.lemmas.List.{drop_more}
+use Rattle.std.specs.Int.{from_bool}
 use Rattle.std.proofs.lemmas.Bool.{cond-true, cond-false, le-leb, lt-leb, leb-true, leb-false}
 use Rattle.rules.specs.declared.count.BytesEnd.{BytesEnd}
 use Rattle.codes.specs.declared.reader.BitReader.{BitReader}
 use Rattle.codes.specs.Reader.{bits_left, word_taken, moved}
 use Rattle.rules.specs.Bits.{bit, value_of, bits_of, bits_in}
-use Rattle.rules.proofs.Bits.{get_or-bits_in, value_of_push, value_of-take_below}
+use Rattle.rules.proofs.Bits.{get_or-bits_in, value_of-take_below}
 
 ok_same : (x y : ℕ) → ◌≡◌ {A = Result ℕ BytesEnd} (Ok x) (Ok y) → x ≡ y
 ok_same x y e = cc
@@ -17,14 +18,16 @@ err_same a b e = cc
 ok≢err : (x : ℕ) (a : BytesEnd) → ◌≡◌ {A = Result ℕ BytesEnd} (Ok x) (Err a) → ⊥
 ok≢err x a e = let z : ◌≡◌ {A = ℕ} 0 1 = cc in omega arith
 
--- one bit more of those that stand from the place on
-pub word_more : (bytes : List ℕ) (place i : ℕ) (b : Bool) → i < length (drop place (bits_in bytes)) → b ≡ get_or (bits_of bytes) (place + i) false
-    → value_of (take (i + 1) (drop place (bits_in bytes))) ≡ value_of (take i (drop place (bits_in bytes))) + bit b * 2 ^ i
-word_more bytes place i b h e =
-    let left = drop place (bits_in bytes) in
-    let is : get_or left i false ≡ b = get_or-drop place (bits_in bytes) i false ∙ get_or-bits_in bytes (place + i) (omega (arith, length-drop place (bits_in bytes))) ∙ sym e in
-    ap value_of (take_more left i false h) ∙ value_of_push (take i left) (get_or left i false)
-    ∙ ap (λ x. value_of (take i left) + bit x * 2 ^ length (take i left)) is ∙ ap (λ n. value_of (take i left) + bit b * 2 ^ n) (length-take-le i left (omega arith))
+-- one bit more, below those that stand from the place after it on
+pub word_more : (bytes : List ℕ) (at count : ℕ) (b : Bool) → at < length (bits_in bytes) → b ≡ get_or (bits_of bytes) at false
+    → value_of (take (suc count) (drop at (bits_in bytes))) ≡ bit b + 2 * value_of (take count (drop (at + 1) (bits_in bytes)))
+word_more bytes at count b h e =
+    ap (λ l. value_of (take (suc count) l)) (drop_more (bits_in bytes) at false h)
+    ∙ ap (λ x. bit x + 2 * value_of (take count (drop (at + 1) (bits_in bytes)))) (get_or-bits_in bytes at h ∙ sym e)
+
+pub bit_of : (b : Bool) → (from_bool b ≡ bit b) × (bit b ≤ 1)
+bit_of true = (refl, omega arith)
+bit_of false = (refl, omega arith)
 
 pub word_taken_lem : (from n : ℕ) (bits : List Bool) → n ≤ length bits → word_taken from n bits ≡ Ok (value_of (take n bits))
 word_taken_lem from n bits h = cond-true (leb n (length bits)) _ _ (le-leb n (length bits) h)

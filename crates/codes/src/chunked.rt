@@ -35,7 +35,7 @@ impl Chunked {
 fn in_range(length: u32) -> bool
     ensures { result ≡ between 1 6 length }
 {
-    1 <= length && length <= 6
+    (1..=6).contains(&length)
 }
 
 // Up to 64 bits, lowest first.

@@ -20,7 +20,7 @@ impl Fixed {
     pub fn new(width: u32) -> Result<Fixed, MakeRefusal>
         ensures { on_ok (λ c. c.width) result ≡ fixed_made width }
     {
-        if width < 4 || width > 32 {
+        if !(4..=32).contains(&width) {
             return Err(MakeRefusal::OutOfRange);
         }
         Ok(Fixed { width })

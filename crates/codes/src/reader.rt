@@ -66,10 +66,8 @@ fn word_at(bytes: &[u8], place: usize, width: usize) -> u64
     ensures { result ≡ value_of (take width (drop place (bits_in bytes.now))) }
 {
     let mut word: u64 = 0;
-    for i in 0..width {
-        if bit_at(bytes, place + i) {
-            word += 1 << i;
-        }
+    for at in (place..place + width).rev() {
+        word = 2 * word + u64::from(bit_at(bytes, at));
     }
     word
 }

@@ -15,24 +15,17 @@ pub fn write_bits(
     ensures answer { result ≡ room place width buffer.old }
     ensures bytes { buffer.new ≡ laid place (low_bits width word) buffer.old }
 {
-    holds_bytes(buffer);
-    let end = bit_len(buffer);
-    if place > end || end - place < width as usize {
+    let size = bit_len(buffer);
+    if place > size || size - place < width as usize {
         return Err(WriteRefusal::NoRoom);
     }
+    let end = place + width as usize;
     let mut rest = word;
-    for i in 0..width {
-        set_bit(buffer, place + i as usize, rest % 2 == 1);
+    for at in place..end {
+        set_bit(buffer, at, rest % 2 == 1);
         rest /= 2;
     }
-    Ok(place + width as usize)
-}
-
-// Does nothing at run time: it tells the caller's proof that a slice's elements are bytes.
-fn holds_bytes(bytes: &[u8])
-    ensures { (k : ℕ) → slice_index bytes.now k < 256 }
-{
-    let _ = bytes.first();
+    Ok(end)
 }
 
 fn set_bit(buffer: &mut [u8], place: usize, bit: bool)

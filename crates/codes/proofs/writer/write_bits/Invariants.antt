@@ -3,6 +3,6 @@ use Rattle.rules.specs.Bits.{bits_of, low_bits}
 use Rattle.rules.specs.Overlay.{overlay}
 use Rattle.codes.proofs.writer.write_bits.Given as goal
 
-abbrev pub invariant-loop-i : goal.invariant-loop-i
-invariant-loop-i l = (overlay (l.place + l.i) (low_bits (l.width - l.i) l.rest) (bits_of l.buffer) ≡ overlay l.place (low_bits l.width l.word) (bits_of l.initial.buffer))
+abbrev pub invariant-loop-at : goal.invariant-loop-at
+invariant-loop-at l = (overlay l.at (low_bits (l.end - l.at) l.rest) (bits_of l.buffer) ≡ overlay l.place (low_bits l.width l.word) (bits_of l.initial.buffer))
     × ((k : ℕ) → get_or l.buffer k 0 < 256)
