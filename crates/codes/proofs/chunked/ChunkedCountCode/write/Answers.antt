@@ -8,13 +8,11 @@ use Rattle.codes.proofs.chunked.ChunkedCountCode.write.Goals as goal
 pub returns : goal.returns
 returns c =
     let m = chunked_meaning c.args.self.now.first c.args.self.now.later in
-    let n = c.args.number in
-    let place = c.args.place in
-    let bytes = c.args.buffer.now in
-    let spelled = c.spell-spelled.result in
-    let within : n ≤ m.top = omega (arith, c.top.ensures) in
-    let long = ap length (sym c.spell-spelled.ensures) ∙ length-low_bits spelled.size spelled.word in
+    let spelled = c.spelled.inside in
+    let within : c.args.number ≤ m.top = omega (arith, c.top.ensures) in
+    let is = c.spelled.view_is ∙ c.spell-spelled.ensures in
+    let long = ap length (sym is) ∙ length-low_bits spelled.size spelled.word in
     record {
-      answer = c.write_bits.ensures.answer ∙ sym (answer_within m n place spelled.size bytes within long);
-      bytes = c.write_bits.ensures.bytes ∙ ap (λ bits. laid place bits bytes) c.spell-spelled.ensures ∙ sym (bytes_within m n place spelled.size bytes within);
+      answer = c.write_bits.ensures.answer ∙ sym (answer_within m c.args.number c.args.place spelled.size c.args.buffer.now within long);
+      bytes = c.write_bits.ensures.bytes ∙ ap (λ bits. laid c.args.place bits c.args.buffer.now) is ∙ sym (bytes_within m c.args.number c.args.place spelled.size c.args.buffer.now within);
     }
