@@ -87,7 +87,7 @@ fn lowest(word: u64, width: u32) -> u64
 }
 
 impl Chunked {
-    // The bits of a number.
+    // The bits of a number. Zero has a group too.
     fn spell(&self, number: u32) -> Spelled
         ensures { result ≡ groups 32 self.now.later self.now.first number }
     {

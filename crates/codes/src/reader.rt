@@ -53,7 +53,7 @@ pub fn bit_len(bytes: &[u8]) -> usize
     bytes.len().saturating_mul(8)
 }
 
-fn bit_at(bytes: &[u8], place: usize) -> bool
+pub(crate) fn bit_at(bytes: &[u8], place: usize) -> bool
     requires { place < 8 * length bytes.now }
     ensures { result ≡ slice_index_or (bits_of bytes.now) place false }
 {

@@ -1,4 +1,4 @@
-use Rattle.std.proofs.Common.{◌≡◌, ◌/◌, ◌^◌, ◌++◌, sym, ap, ◌∙◌, arith, pow_mono, append-nil}
+use Rattle.std.proofs.Common.{◌/◌, ◌^◌, ◌++◌, sym, ap, ◌∙◌, arith, pow_mono}
 use Rattle.std.proofs.Math.Nat.{div-lt_self}
 use Rattle.std.proofs.lemmas.Nat.{shr_le}
 use Rattle.codes.specs.Chunked.{groups}
@@ -33,9 +33,3 @@ loop-rest-preserved c =
           ∙ spelled_more later l.rest l.spelled _ c.loop-rest-test.true l.invariant.0 (omega arith) l.invariant.1,
       omega (arith, shr_le l.rest later),
     )
-
-pub returns : goal.returns
-returns c =
-    let l = c.loop-rest in
-    let none : l.rest ≡ 0 = omega arith in
-    sym (append-nil l.spelled) ∙ sym (ap (λ n. l.spelled ++ following c.args.self.now.later n) none) ∙ l.invariant.0
