@@ -66,6 +66,7 @@ fn word_at(bytes: &[u8], place: usize, width: usize) -> u64
     ensures { result ≡ value_of (take width (drop place (bits_in bytes.now))) }
 {
     let mut word: u64 = 0;
+    // From the highest down, so that each bit doubles those above it.
     for at in (place..place + width).rev() {
         word = 2 * word + u64::from(bit_at(bytes, at));
     }

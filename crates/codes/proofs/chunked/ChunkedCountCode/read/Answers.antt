@@ -3,7 +3,7 @@ use Rattle.std.proofs.lemmas.Nat.{shl_whole, mod_below}
 use Rattle.std.proofs.lemmas.Result.{err_from_is_err_and}
 use Rattle.rules.specs.Bits.{bits_in}
 use Rattle.rules.specs.Calls.{answer_of}
-use Rattle.rules.specs.Meaning.{Reading}
+use Rattle.rules.specs.Meaning.{Reading, bad}
 use Rattle.rules.specs.declared.count.CountFault.TheVariants.{Cut}
 use Rattle.rules.specs.declared.count.BytesEnd.{BytesEnd}
 use Rattle.rules.specs.declared.count.Counted.{Counted}
@@ -26,11 +26,18 @@ left : (later width seen value used : ℕ) (bits : List Bool) (all : Reading) �
 left later width seen value used bits all few inv =
     let same : suc (31 - seen) ≡ 32 - seen = omega arith in ap (λ t. read_groups t later width seen value used bits) same ∙ inv
 
+-- the reading from this turn on, and the whole of it
+abbrev ahead : After-lowest-group → Reading
+ahead c =
+    read_groups (suc (31 - c.loop-seen.seen)) c.args.self.now.later c.loop-seen.width c.loop-seen.seen c.loop-seen.value (c.loop-seen.reader.place - c.args.place) (bits_left c.loop-seen.reader)
+
+abbrev whole : After-lowest-group → Reading
+whole c = read_groups 32 c.args.self.now.later c.args.self.now.first 0 0 0 (drop c.args.place (bits_in c.args.bytes.now))
+
 -- what one turn knows
 record Turn (c : After-lowest-group) : Type 0 where
   taken : Took c.loop-seen.reader c.take.new.self (c.loop-seen.width + 1) c.in_ok-word.word
-  here : read_groups (suc (31 - c.loop-seen.seen)) c.args.self.now.later c.loop-seen.width c.loop-seen.seen c.loop-seen.value (c.loop-seen.reader.place - c.args.place) (bits_left c.loop-seen.reader)
-      ≡ read_groups 32 c.args.self.now.later c.args.self.now.first 0 0 0 (drop c.args.place (bits_in c.args.bytes.now))
+  here : ahead c ≡ whole c
   raised : (c.lowest-group.result * 2 ^ c.loop-seen.seen) % 2 ^ 64 ≡ (c.in_ok-word.word % 2 ^ c.loop-seen.width) * 2 ^ c.loop-seen.seen
 
 turn : (c : After-lowest-group) → Turn c
@@ -39,6 +46,9 @@ turn c = record {
   here = left c.args.self.now.later c.loop-seen.width c.loop-seen.seen c.loop-seen.value _ (bits_left c.loop-seen.reader) _ c.loop-seen-test.true c.loop-seen.invariant.reads;
   raised = shifted c.in_ok-word.word c.lowest-group.result c.loop-seen.width c.loop-seen.seen (omega arith) (omega arith) c.lowest-group.ensures;
 }
+
+told : (c : After-lowest-group) (r : Reading) → ahead c ≡ r → answer_of c.args.place r ≡ answer_of c.args.place (whole c)
+told c r is = ap (answer_of c.args.place) (sym is ∙ (turn c).here)
 
 pub returns-in_err-word : goal.returns-in_err-word
 returns-in_err-word c =
@@ -53,28 +63,30 @@ returns-in_err-word c =
 
 pub returns-then-value-from : goal.returns-then-value-from
 returns-then-value-from c =
-    let t = turn (goal.at.returns-then-value-from c).After-lowest-group in
+    let a = (goal.at.returns-then-value-from c).After-lowest-group in
+    let t = turn a in
     let l = c.loop-seen in
-    let is = too_large (31 - l.seen) c.args.self.now.later l.width l.seen l.value (l.reader.place - c.args.place) c.in_ok-word.word (bits_left l.reader) t.taken.enough t.taken.value_is (omega (arith, t.raised, c.from.ensures, c.if-value-from.true)) in
-    sym (ap (answer_of c.args.place) (sym t.here ∙ is))
+    told a bad (too_large (31 - l.seen) c.args.self.now.later l.width l.seen l.value (l.reader.place - c.args.place) c.in_ok-word.word (bits_left l.reader) t.taken.enough t.taken.value_is (omega (arith, t.raised, c.from.ensures, c.if-value-from.true)))
 
 pub returns-then-group-eq0 : goal.returns-then-group-eq0
 returns-then-group-eq0 c =
-    let t = turn (goal.at.returns-then-group-eq0 c).After-lowest-group in
+    let a = (goal.at.returns-then-group-eq0 c).After-lowest-group in
+    let t = turn a in
     let l = c.loop-seen in
-    let is = zero_group (31 - l.seen) c.args.self.now.later l.width l.seen l.value (l.reader.place - c.args.place) c.in_ok-word.word (bits_left l.reader) t.taken.enough t.taken.value_is
-    (omega (arith, t.raised, c.from.ensures, c.if-value-from.false)) c.if-word-width-eq0.true c.if-seen-gt0.true (sym c.lowest-group.ensures ∙ c.if-group-eq0.true) in
-    sym (ap (answer_of c.args.place) (sym t.here ∙ is))
+    told a bad
+    (zero_group (31 - l.seen) c.args.self.now.later l.width l.seen l.value (l.reader.place - c.args.place) c.in_ok-word.word (bits_left l.reader) t.taken.enough t.taken.value_is
+    (omega (arith, t.raised, c.from.ensures, c.if-value-from.false)) c.if-word-width-eq0.true c.if-seen-gt0.true (sym c.lowest-group.ensures ∙ c.if-group-eq0.true))
 
 pub returns-then-word-width-eq0 : goal.returns-then-word-width-eq0
 returns-then-word-width-eq0 c =
-    let t = turn (goal.at.returns-then-word-width-eq0 c).After-lowest-group in
+    let a = (goal.at.returns-then-word-width-eq0 c).After-lowest-group in
+    let t = turn a in
     let l = c.loop-seen in
     let used = l.reader.place - c.args.place in
     let is = last_read (31 - l.seen) c.args.self.now.later l.width l.seen l.value used c.in_ok-word.word (bits_left l.reader) t.taken.enough t.taken.value_is
     (omega (arith, t.raised, c.from.ensures, c.if-value-from.false)) c.if-word-width-eq0.true (λ h. omega (arith, h, c.else-seen-gt0.either, c.lowest-group.ensures)) in
     let next : c.place.result ≡ c.args.place + (used + (l.width + 1)) = omega (arith, c.place.ensures, t.taken.place_is) in
-    ap₂ (λ n p. let x : Counted = record { number = n; next = p } in Ok x) (ap (λ g. l.value + g) t.raised) next ∙ sym (ap (answer_of c.args.place) (sym t.here ∙ is))
+    ap₂ (λ n p. let x : Counted = record { number = n; next = p } in Ok x) (ap (λ g. l.value + g) t.raised) next ∙ told a _ is
 
 pub loop-seen-preserved : goal.loop-seen-preserved
 loop-seen-preserved c =
