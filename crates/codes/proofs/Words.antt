@@ -16,6 +16,7 @@ word_more bytes at count b h e =
     ap (λ l. value_of (take (suc count) l)) (drop_more (bits_in bytes) at false h)
     ∙ ap (λ x. bit x + 2 * value_of (take count (drop (at + 1) (bits_in bytes)))) (get_or-bits_in bytes at h ∙ sym e)
 
+-- a bit as a number
 pub bit_of : (b : Bool) → (from_bool b ≡ bit b) × (bit b ≤ 1)
 bit_of true = (refl, omega arith)
 bit_of false = (refl, omega arith)

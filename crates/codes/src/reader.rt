@@ -1,4 +1,4 @@
-ghost use Rattle.std.specs.Prelude.{◌≡◌, ◌+◌, ◌-◌, ◌*◌, ◌<◌, ◌≤◌, min, false, length, take, drop, slice_index_or};
+ghost use Rattle.std.specs.Prelude.{◌≡◌, ◌*◌, ◌<◌, ◌≤◌, min, false, length, take, drop, slice_index_or};
 ghost use Rattle.rules.specs.Bits.{bits_of, bits_in, value_of};
 ghost use Rattle.codes.specs.Reader.{bits_left, word_taken, moved};
 

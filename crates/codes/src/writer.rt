@@ -1,4 +1,4 @@
-ghost use Rattle.std.specs.Prelude.{◌≡◌, ℕ, ◌*◌, ◌<◌, length, slice_index, slice_set};
+ghost use Rattle.std.specs.Prelude.{◌≡◌, ◌*◌, ◌<◌, length, slice_set};
 ghost use Rattle.rules.specs.Bits.{bits_of, low_bits};
 ghost use Rattle.rules.specs.Calls.{room, laid};
 
