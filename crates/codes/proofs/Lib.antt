@@ -1,4 +1,5 @@
 pub mod Laying
+pub mod Reading
 pub mod Spelling
 pub mod Standing
 pub mod Words

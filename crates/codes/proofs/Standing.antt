@@ -1,14 +1,14 @@
 -- Counts that stand one after the other in a buffer, and how they are read back.
-use Rattle.std.proofs.Common.{◌≡◌, ℕ, ◌+◌, ◌≤◌, List, [], ◌∷◌, ◌++◌, length, take, drop, Some, Ok, Err, sym, refl, ap, ◌∙◌, subst, append_assoc, append-nil, arith, length-append, take-append-drop, length-take, length-take-le, drop-drop, drop_at}
+use Rattle.std.proofs.Common.{Result, get_or, ◌<◌, ◌≡◌, ℕ, ◌+◌, ◌≤◌, List, [], ◌∷◌, ◌++◌, length, take, drop, Some, Ok, Err, sym, refl, ap, ◌∙◌, subst, append_assoc, arith, length-append, take-append-drop, length-take-le, drop-drop, drop_at}
 use lib.Seq.{drop-append-le}
 use Rattle.std.proofs.ByRecursion.{All-push}
-use Rattle.std.proofs.lemmas.List.{drop-take, drop_all}
+use Rattle.std.proofs.lemmas.List.{flat_map_more, drop_more, take_more, drop-take}
 use Rattle.std.specs.List.{flat_map, AllByRecursion}
 use Rattle.rules.specs.declared.count.WriteRefusal.{WriteRefusal}
 use Rattle.rules.specs.Bits.{bits_in}
 use Rattle.rules.specs.Calls.{answer_of, write_answer, bytes_written, read_answer}
 use Rattle.rules.specs.Meaning.{Meaning, Sound, number}
-use Rattle.rules.proofs.Calls.{wrote}
+use Rattle.rules.proofs.Calls.{wrote, refused_same}
 use Rattle.codes.specs.Series.{series_from, series_bytes, ReadBack}
 
 -- the bits of the counts fill the buffer from the place to `end`
@@ -17,21 +17,10 @@ pub record Stands (m : Meaning) (ns : List ℕ) (place end : ℕ) (bytes : List 
   pub end_is : end ≡ place + length (flat_map m.bits ns)
   pub bits_are : drop place (take end (bits_in bytes)) ≡ flat_map m.bits ns
 
-pub stands_none : (m : Meaning) (place : ℕ) (bytes : List ℕ) → Stands m [] place place bytes
-stands_none m place bytes = record {
-  in_range = tt;
-  end_is = omega arith;
-  bits_are = drop_all place (take place (bits_in bytes)) (omega (arith, length-take place (bits_in bytes)));
-}
-
-joined_push : (m : Meaning) (ns : List ℕ) (n : ℕ) → flat_map m.bits (ns ++ n ∷ []) ≡ flat_map m.bits ns ++ m.bits n
-joined_push m [] n = append-nil (m.bits n)
-joined_push m (x ∷ ns) n = ap (λ l. m.bits x ++ l) (joined_push m ns n) ∙ sym (append_assoc (m.bits x) (flat_map m.bits ns) (m.bits n))
-
-pub stands_more : (m : Meaning) (ns : List ℕ) (n place end next : ℕ) (bytes : List ℕ) → Stands m ns place end bytes → write_answer m n end bytes ≡ Ok next → Stands m (ns ++ n ∷ []) place next (bytes_written m n end bytes)
+stands_more : (m : Meaning) (ns : List ℕ) (n place end next : ℕ) (bytes : List ℕ) → Stands m ns place end bytes → write_answer m n end bytes ≡ Ok next → Stands m (ns ++ n ∷ []) place next (bytes_written m n end bytes)
 stands_more m ns n place end next bytes s e =
     let w = wrote m n end next bytes e in
-    let more = joined_push m ns n in
+    let more = sym (flat_map_more m.bits [] ns n) in
     let within : end ≤ length (bits_in bytes) = omega (arith, w.fits, w.next_is) in
     let front : place ≤ length (take end (bits_in bytes)) = omega (arith, length-take-le end (bits_in bytes) within, s.end_is) in
     record {
@@ -60,16 +49,33 @@ read_back m sound ns place end bytes s =
     let split = sym (take-append-drop size (drop place (bits_in bytes))) ∙ ap (λ l. l ++ drop size (drop place (bits_in bytes))) part in
     subst (λ e. ReadBack m ns place e bytes) (sym s.end_is) (read_on m sound ns place bytes (drop size (drop place (bits_in bytes))) s.in_range split)
 
--- one count of a series
-module _ (m : Meaning) (done n place : ℕ) (ns bytes : List ℕ) where
-  pub series_goes : (next : ℕ) → write_answer m n place bytes ≡ Ok next → series_from m done (n ∷ ns) place bytes ≡ series_from m (done + 1) ns next (bytes_written m n place bytes)
-  series_goes next e = ap (λ r. elim r [ Ok next ↦ series_from m (done + 1) ns next (bytes_written m n place bytes) | Err x ↦ record { written = done; next = place; refusal = Some x } ]) e
+-- one count of a series: from where it was written on the answer, the bytes and what stands go on
+module _ (m : Meaning) (numbers bytes bytes' : List ℕ) (written place next next' : ℕ) (within : written < length numbers)
+    (result : Result ℕ WriteRefusal) (gave : result ≡ write_answer m (get_or numbers written 0) next bytes) (went : result ≡ Ok next') (is : bytes' ≡ bytes_written m (get_or numbers written 0) next bytes) where
+  answer : write_answer m (get_or numbers written 0) next bytes ≡ Ok next'
+  answer = sym gave ∙ went
 
-  pub bytes_go : (next : ℕ) → write_answer m n place bytes ≡ Ok next → series_bytes m (n ∷ ns) place bytes ≡ series_bytes m ns next (bytes_written m n place bytes)
-  bytes_go next e = ap (λ r. elim r [ Ok next ↦ series_bytes m ns next (bytes_written m n place bytes) | Err x ↦ bytes ]) e
+  begins : drop written numbers ≡ get_or numbers written 0 ∷ drop (written + 1) numbers
+  begins = drop_more numbers written 0 within
 
-  pub series_ends : (x : WriteRefusal) → write_answer m n place bytes ≡ Err x → series_from m done (n ∷ ns) place bytes ≡ record { written = done; next = place; refusal = Some x }
-  series_ends x e = ap (λ r. elim r [ Ok next ↦ series_from m (done + 1) ns next (bytes_written m n place bytes) | Err x ↦ record { written = done; next = place; refusal = Some x } ]) e
+  pub series_goes : series_from m (written + 1) (drop (written + 1) numbers) next' bytes' ≡ series_from m written (drop written numbers) next bytes
+  series_goes =
+      ap (series_from m (written + 1) (drop (written + 1) numbers) next') is
+      ∙ sym (ap (λ r. elim r [ Ok k ↦ series_from m (written + 1) (drop (written + 1) numbers) k (bytes_written m (get_or numbers written 0) next bytes) | Err x ↦ record { written = written; next = next; refusal = Some x } ]) answer)
+      ∙ ap (λ ns. series_from m written ns next bytes) (sym begins)
 
-  pub bytes_end : (x : WriteRefusal) → write_answer m n place bytes ≡ Err x → series_bytes m (n ∷ ns) place bytes ≡ bytes
-  bytes_end x e = ap (λ r. elim r [ Ok next ↦ series_bytes m ns next (bytes_written m n place bytes) | Err x ↦ bytes ]) e
+  pub bytes_go : series_bytes m (drop (written + 1) numbers) next' bytes' ≡ series_bytes m (drop written numbers) next bytes
+  bytes_go =
+      ap (series_bytes m (drop (written + 1) numbers) next') is
+      ∙ sym (ap (λ r. elim r [ Ok k ↦ series_bytes m (drop (written + 1) numbers) k (bytes_written m (get_or numbers written 0) next bytes) | Err x ↦ bytes ]) answer)
+      ∙ ap (λ ns. series_bytes m ns next bytes) (sym begins)
+
+  pub stands_on : Stands m (take written numbers) place next bytes → Stands m (take (written + 1) numbers) place next' bytes'
+  stands_on s =
+      subst (λ ns. Stands m ns place next' bytes') (sym (take_more numbers written 0 within))
+      (subst (Stands m (take written numbers ++ get_or numbers written 0 ∷ []) place next') (sym is) (stands_more m (take written numbers) (get_or numbers written 0) place next next' bytes s answer))
+
+-- what stands before a count that is refused
+pub stands_still : (m : Meaning) (ns : List ℕ) (n place next : ℕ) (bytes bytes' : List ℕ) (result : Result ℕ WriteRefusal) (x : WriteRefusal) → result ≡ write_answer m n next bytes → result ≡ Err x → bytes' ≡ bytes_written m n next bytes → Stands m ns place next bytes → Stands m ns place next bytes'
+stands_still m ns n place next bytes bytes' result x gave went is s =
+    subst (Stands m ns place next) (sym (is ∙ refused_same m n next bytes x (sym gave ∙ went))) s

@@ -5,15 +5,15 @@ use Rattle.std.proofs.Common.{inl, inr, subst, ◌∙◌, div-add-mod', mul-le-m
 use Rattle.std.proofs.Math.Path.{sym, ap, ap₂}
 use Rattle.std.proofs.Math.ListN.{length-append}
 use Rattle.std.proofs.Math.Seq.{take_at, get_or_at, take-append-add}
-use Rattle.std.proofs.lemmas.Nat.{mod_low, shr_below, shr_high, shr_le}
-use Rattle.std.proofs.lemmas.Bool.{cond-true, cond-false, le-leb, lt-leb, leb-true, leb-false, lt-ltb, le-ltb, ltb-true, ltb-false, eqb-false, ne_eqb, cases_lt, and_left, and_right, and_cases, and_from, eq-eqb}
-use Rattle.std.proofs.lemmas.List.{drop_more, take_more}
-use Rattle.rules.specs.Bits.{bit, low_bits, value_of}
+use Rattle.std.proofs.lemmas.Nat.{shr_below, shr_high, shr_le}
+use Rattle.std.proofs.lemmas.Bool.{cond-true, cond-false, le-leb, lt-leb, leb-true, leb-false, lt-ltb, le-ltb, ltb-true, ltb-false, eqb-false, ne_eqb, cases_lt, and_left, and_right, and_cases}
+use Rattle.std.proofs.lemmas.List.{drop_more}
+use Rattle.rules.specs.Bits.{low_bits, value_of}
 use Rattle.rules.specs.Meaning.{Reading, number, cut, bad, Begins, Sound}
-use Rattle.rules.proofs.Bits.{length-low_bits, low_bits-value_of, value_of-low_bits, value_of_below, value_of_push, value_of-take_below, low_bits_low}
+use Rattle.rules.proofs.Bits.{length-low_bits, low_bits-value_of, value_of-low_bits, value_of_below, low_bits_low}
 use Rattle.codes.specs.Chunked.{greatest, more, groups, judged, read_groups, chunked_meaning}
 
-either : {P : Type 0} (b : Bool) → (b ≡ true → P) → (b ≡ false → P) → P
+pub either : {P : Type 0} (b : Bool) → (b ≡ true → P) → (b ≡ false → P) → P
 either true yes_way no_way = yes_way refl
 either false yes_way no_way = no_way refl
 
@@ -44,17 +44,13 @@ module _ (turns later w seen value used : ℕ) where
   unfolding read_groups
   read_short bs few = cond-false (nat_le (w + 1) (length bs)) _ _ (lt-leb (w + 1) (length bs) few)
 
-pub no_turns : (turns later w seen value used : ℕ) (bs : List Bool) → turns ≡ 0 → read_groups turns later w seen value used bs ≡ bad
-unfolding read_groups
-no_turns turns later w seen value used bs e = ap (λ t. read_groups t later w seen value used bs) e
-
 -- the number goes on, or ends with this group
 module _ (seen w group value used : ℕ) (goes : Reading) (fits : value ≤ greatest) where
-  judged-more : seen + w < 32 → judged true seen w group value used goes ≡ goes
+  pub judged-more : seen + w < 32 → judged true seen w group value used goes ≡ goes
   judged-more few =
       cond-false (nat_lt greatest value) _ _ (le-ltb greatest value fits) ∙ cond-false (nat_le 32 (seen + w)) _ _ (lt-leb 32 (seen + w) few)
 
-  judged_last : (0 < seen → 0 < group) → judged false seen w group value used goes ≡ number value used
+  pub judged_last : (0 < seen → 0 < group) → judged false seen w group value used goes ≡ number value used
   judged_last live =
       cond-false (nat_lt greatest value) _ _ (le-ltb greatest value fits) ∙ cond-false (nat_lt 0 seen && group == 0) _ _ (go (cases_lt 0 seen))
     where
@@ -91,10 +87,10 @@ module _ (turns later w n : ℕ) where
   length-groups b e =
       length-append (low_bits w n) (more w n ∷ tail (more w n)) ∙ omega (arith, length-low_bits w n, ap (λ b. length (tail b)) e)
 
-  fewer : 1 ≤ w → n < 2 ^ suc turns → n / 2 ^ w < 2 ^ turns
+  pub fewer : 1 ≤ w → n < 2 ^ suc turns → n / 2 ^ w < 2 ^ turns
   fewer lw small = shr_below n turns w (omega (arith, pow_mono {i = suc turns} {j = turns + w} (omega arith)))
 
-  turns_left : 1 ≤ w → n < 2 ^ suc turns → 0 < n / 2 ^ w → 0 < turns
+  pub turns_left : 1 ≤ w → n < 2 ^ suc turns → 0 < n / 2 ^ w → 0 < turns
   turns_left lw small h = go turns (fewer lw small)
     where
       go : (t : ℕ) → n / 2 ^ w < 2 ^ t → 0 < t
@@ -374,57 +370,3 @@ chunked_sound first later lf mf ll ml = record {
   cuts = λ n h k l. cuts 32 later first n 0 0 0 k (start first later n lf ll h) l;
   begins = begins first later lf ll;
 }
-
--- A group and its connect bit, taken as one word: where the reading then stands.
-module _ (turns later w seen value used word : ℕ) (bs : List Bool) (enough : w + 1 ≤ length bs) (is : word ≡ value_of (take (w + 1) bs)) where
-  word_parts : word ≡ bit (slice_index_or bs w false) * 2 ^ w + value_of (take w bs)
-  word_parts =
-      is ∙ ap value_of (take_more bs w false (omega arith)) ∙ value_of_push (take w bs) (slice_index_or bs w false)
-      ∙ ap (λ n. value_of (take w bs) + bit (slice_index_or bs w false) * 2 ^ n) (length-take-le w bs (omega arith)) ∙ omega arith
-
-  front_below : value_of (take w bs) < 2 ^ w
-  front_below = value_of-take_below w bs (omega arith)
-
-  group_is : word % 2 ^ w ≡ value_of (take w bs)
-  group_is = ap (λ n. n % 2 ^ w) word_parts ∙ mod_low (bit (slice_index_or bs w false)) w (value_of (take w bs)) front_below
-
-  connect_is : word / 2 ^ w ≡ bit (slice_index_or bs w false)
-  connect_is = ap (λ n. n / 2 ^ w) word_parts ∙ shr_high (bit (slice_index_or bs w false)) w (value_of (take w bs)) front_below
-
-  -- the reading after the group, by its connect bit
-  abbrev on : Bool → Reading
-  on b =
-      judged b seen w (word % 2 ^ w) (value + (word % 2 ^ w) * 2 ^ seen) (used + (w + 1))
-      (read_groups turns later later (seen + w) (value + (word % 2 ^ w) * 2 ^ seen) (used + (w + 1)) (drop (w + 1) bs))
-
-  stands : (b : Bool) → slice_index_or bs w false ≡ b → read_groups (suc turns) later w seen value used bs ≡ on b
-  unfolding read_groups
-  stands b e =
-      cond-true (nat_le (w + 1) (length bs)) _ _ (le-leb (w + 1) (length bs) enough)
-      ∙ ap₂ (λ c g. judged c seen w g (value + g * 2 ^ seen) (used + (w + 1)) (read_groups turns later later (seen + w) (value + g * 2 ^ seen) (used + (w + 1)) (drop (w + 1) bs))) e (sym group_is)
-
-  last_group : word / 2 ^ w ≡ 0 → slice_index_or bs w false ≡ false
-  last_group e = either (slice_index_or bs w false) (λ t. absurd (omega (arith, connect_is, ap bit t))) (λ t. t)
-
-  not_last : (word / 2 ^ w ≢ 0) → slice_index_or bs w false ≡ true
-  not_last ne = either (slice_index_or bs w false) (λ t. t) (λ t. absurd (ne (connect_is ∙ ap bit t)))
-
-  pub too_large : greatest < value + (word % 2 ^ w) * 2 ^ seen → read_groups (suc turns) later w seen value used bs ≡ bad
-  too_large h = stands (slice_index_or bs w false) refl ∙ cond-true (nat_lt greatest (value + (word % 2 ^ w) * 2 ^ seen)) _ _ (lt-ltb greatest _ h)
-
-  module _ (fits : value + (word % 2 ^ w) * 2 ^ seen ≤ greatest) where
-    pub zero_group : word / 2 ^ w ≡ 0 → 0 < seen → word % 2 ^ w ≡ 0 → read_groups (suc turns) later w seen value used bs ≡ bad
-    zero_group e l z =
-        stands false (last_group e) ∙ cond-false (nat_lt greatest (value + (word % 2 ^ w) * 2 ^ seen)) _ _ (le-ltb greatest _ fits)
-        ∙ cond-true (nat_lt 0 seen && word % 2 ^ w == 0) _ _ (and_from (nat_lt 0 seen) (word % 2 ^ w == 0) (lt-ltb 0 seen l) (eq-eqb (word % 2 ^ w) 0 z))
-
-    pub last_read : word / 2 ^ w ≡ 0 → (0 < seen → 0 < word % 2 ^ w) → read_groups (suc turns) later w seen value used bs ≡ number (value + (word % 2 ^ w) * 2 ^ seen) (used + (w + 1))
-    last_read e live = stands false (last_group e) ∙ judged_last seen w (word % 2 ^ w) (value + (word % 2 ^ w) * 2 ^ seen) (used + (w + 1)) (read_groups turns later later (seen + w) (value + (word % 2 ^ w) * 2 ^ seen) (used + (w + 1)) (drop (w + 1) bs)) fits live
-
-    pub too_long : (word / 2 ^ w ≢ 0) → 32 ≤ seen + w → read_groups (suc turns) later w seen value used bs ≡ bad
-    too_long ne l =
-        stands true (not_last ne) ∙ cond-false (nat_lt greatest (value + (word % 2 ^ w) * 2 ^ seen)) _ _ (le-ltb greatest _ fits)
-        ∙ cond-true (nat_le 32 (seen + w)) _ _ (le-leb 32 (seen + w) l)
-
-    pub goes_on : (word / 2 ^ w ≢ 0) → seen + w < 32 → read_groups (suc turns) later w seen value used bs ≡ read_groups turns later later (seen + w) (value + (word % 2 ^ w) * 2 ^ seen) (used + (w + 1)) (drop (w + 1) bs)
-    goes_on ne l = stands true (not_last ne) ∙ judged-more seen w (word % 2 ^ w) _ (used + (w + 1)) _ fits l

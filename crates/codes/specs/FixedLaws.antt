@@ -1,17 +1,18 @@
 -- The fixed code keeps the laws.
 use Rattle.std.specs.Prelude.{◌≡◌, ℕ, ◌-◌, ◌^◌, ◌<◌, ◌≤◌, Bool, true, false, List, ◌++◌, length, take, drop, nat_le, refl}
-use Rattle.std.proofs.Common.{sym, ap, ap₂, ◌∙◌, mod-eq_of_lt, arith, length-append, length-take, take-append-drop, pow_pos, pow_mono, length-take-le, take_at}
+use Rattle.std.proofs.Common.{sym, ap, ap₂, ◌∙◌, arith, length-append, length-take, take-append-drop, pow_pos, pow_mono, length-take-le, take_at}
 use Rattle.std.proofs.lemmas.Bool.{cond-true, cond-false, le-leb, lt-leb, leb-true}
 use Rattle.rules.specs.Bits.{low_bits, value_of}
 use Rattle.rules.specs.Meaning.{number, cut, Begins, Sound}
-use Rattle.rules.proofs.Bits.{length-low_bits, low_bits-value_of, value_of-low_bits, value_of-take_below}
+use Rattle.rules.proofs.Bits.{length-low_bits, low_bits-value_of, value_of-take_below}
+use Rattle.codes.specs.Spelled.{word_back}
 use Rattle.codes.specs.Fixed.{fixed_reading, fixed_meaning}
 
 whole : (w n : ℕ) → n ≤ 2 ^ w - 1 → (rest : List Bool) → fixed_reading w (low_bits w n ++ rest) ≡ number n (length (low_bits w n))
 whole w n h rest =
     let long = length-low_bits w n in
     let enough : w ≤ length (low_bits w n ++ rest) = omega (arith, length-append (low_bits w n) rest) in
-    let value = ap value_of (take_at (low_bits w n) rest w long) ∙ value_of-low_bits w n ∙ mod-eq_of_lt (omega (arith, pow_pos w)) in
+    let value = ap value_of (take_at (low_bits w n) rest w long) ∙ word_back w n (omega (arith, pow_pos w)) in
     cond-true (nat_le w (length (low_bits w n ++ rest))) _ _ (le-leb w _ enough) ∙ ap₂ number value (sym long)
 
 cuts : (w n k : ℕ) → k < length (low_bits w n) → fixed_reading w (take k (low_bits w n)) ≡ cut

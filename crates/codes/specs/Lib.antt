@@ -4,5 +4,6 @@ pub mod Fixed
 pub mod Reader
 pub mod Refusal
 pub mod Series
+pub mod Spelled
 pub mod ChunkedLaws
 pub mod FixedLaws

@@ -1,14 +1,16 @@
-ghost use Rattle.std.specs.Prelude.{◌≡◌, ◌+◌, ◌*◌, ◌%◌, ◌^◌, ◌<◌, ◌≤◌, ◌++◌};
-ghost use Rattle.rules.specs.Bits.{bit, low_bits};
+ghost use Rattle.std.specs.Prelude.{◌≡◌, ◌+◌, ◌%◌, ◌^◌, ◌<◌, ◌≤◌, Bool, List, [], ◌∷◌, ◌++◌, length};
+ghost use Rattle.rules.specs.Bits.{low_bits, value_of};
 ghost use Rattle.rules.specs.Views.{on_ok};
 ghost use Rattle.codes.specs.Chunked.{chunked_meaning, chunked_made, groups, more};
 ghost use Rattle.codes.specs.Refusal.{between};
 ghost use Rattle.codes.specs.ChunkedLaws.{chunked_sound};
+ghost use Rattle.codes.specs.Spelled.{word_back, size_back};
 
 use crate::reader::BitReader;
 use crate::refusal::MakeRefusal;
 use crate::writer::write_bits;
 use rules::count::{CodeName, CountCode, CountFault, Counted, WriteRefusal};
+use std::marker::Model;
 
 // Counts in groups of bits: one of `first` bits, and then ones of `later` bits.
 #[derive(Clone, Copy)]
@@ -45,63 +47,56 @@ struct Spelled {
     size: u32,
 }
 
+impl Model for Spelled {
+    ghost Value = { List Bool };
+
+    ghost view = { λ s. low_bits s.size s.word };
+
+    ghost invariant = { λ s. s.word < 2 ^ s.size };
+
+    ghost inverse = { λ bits. record { word = value_of bits; size = length bits } };
+
+    ghost inverse_ok = { λ s below i. record {
+      word = word_back s.size s.word below i;
+      size = size_back s.size s.word i;
+    } };
+}
+
 impl Spelled {
-    // These bits, and then the lowest `width` of others.
-    fn then(self, bits: u64, width: u32) -> Spelled
-        requires below { self.word < 2 ^ self.size }
-        requires some { 0 < width }
-        requires small { bits < 2 ^ width }
-        requires fits { self.size + width ≤ 64 }
-        ensures below { result.word < 2 ^ result.size }
-        ensures size { result.size ≡ self.size + width }
-        ensures bits { low_bits result.size result.word ≡ low_bits self.size self.word ++ low_bits width bits }
+    // These bits, and then a number's lowest `width`, with a connect bit above them.
+    fn then(self, number: u64, width: u32) -> Spelled
+        requires narrow { width ≤ 6 }
+        requires fits { length self + width < 64 }
+        ensures { result ≡ self ++ (low_bits width number ++ more width number ∷ []) }
     {
+        let connect = number >> width > 0;
+        let group = lowest(number, width) + (u64::from(connect) << width);
         Spelled {
-            word: self.word + (bits << self.size),
-            size: self.size + width,
+            word: self.word + (group << self.size),
+            size: self.size + width + 1,
         }
     }
 }
 
-// The lowest `width` bits of a number, with a connect bit above them.
-fn group_of(number: u64, width: u32) -> u64
-    requires { width ≤ 6 }
-    ensures { result ≡ number % 2 ^ width + bit (more width number) * 2 ^ width }
-{
-    let group = number % (1 << width);
-    if number >> width > 0 {
-        group + (1 << width)
-    } else {
-        group
-    }
-}
-
-// The group in a word that has its connect bit above it.
-fn group_in(word: u64, width: u32) -> u64
+// The lowest `width` bits of a word.
+fn lowest(word: u64, width: u32) -> u64
     requires { width ≤ 6 }
     ensures { result ≡ word % 2 ^ width }
 {
     word % (1 << width)
 }
 
-// The turns of a number: it has 32 bits, and a group takes one at least.
-const TURNS: u32 = 32;
-
 impl Chunked {
-    // The bits of a number.
+    // The bits of a number. Zero has a group too.
     fn spell(&self, number: u32) -> Spelled
-        ensures { low_bits result.size result.word ≡ groups 32 self.now.later self.now.first number }
+        ensures { result ≡ groups 32 self.now.later self.now.first number }
     {
-        let mut spelled = Spelled { word: 0, size: 0 };
         let mut rest = u64::from(number);
-        let mut width = self.first;
-        for turn in 0..TURNS {
-            spelled = spelled.then(group_of(rest, width), width + 1);
-            rest >>= width;
-            if rest == 0 {
-                return spelled;
-            }
-            width = self.later;
+        let mut spelled = Spelled { word: 0, size: 0 }.then(rest, self.first);
+        rest >>= self.first;
+        while rest > 0 {
+            spelled = spelled.then(rest, self.later);
+            rest >>= self.later;
         }
         spelled
     }
@@ -133,9 +128,9 @@ impl CountCode for Chunked {
         let mut value: u64 = 0;
         let mut seen: u32 = 0;
         let mut width = self.first;
-        for turn in 0..TURNS {
+        while seen < 32 {
             let word = reader.take(width + 1)?;
-            let group = group_in(word, width);
+            let group = lowest(word, width);
             value += group << seen;
             if value > u64::from(u32::MAX) {
                 return Err(CountFault::Bad(place));
@@ -150,9 +145,6 @@ impl CountCode for Chunked {
                 });
             }
             seen += width;
-            if seen >= 32 {
-                return Err(CountFault::Bad(place));
-            }
             width = self.later;
         }
         Err(CountFault::Bad(place))

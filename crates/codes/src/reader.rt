@@ -1,4 +1,4 @@
-ghost use Rattle.std.specs.Prelude.{◌≡◌, ◌+◌, ◌-◌, ◌*◌, ◌<◌, ◌≤◌, min, false, length, take, drop, slice_index_or};
+ghost use Rattle.std.specs.Prelude.{◌≡◌, ◌*◌, ◌<◌, ◌≤◌, min, false, length, take, drop, slice_index_or};
 ghost use Rattle.rules.specs.Bits.{bits_of, bits_in, value_of};
 ghost use Rattle.codes.specs.Reader.{bits_left, word_taken, moved};
 
@@ -53,7 +53,7 @@ pub fn bit_len(bytes: &[u8]) -> usize
     bytes.len().saturating_mul(8)
 }
 
-fn bit_at(bytes: &[u8], place: usize) -> bool
+pub(crate) fn bit_at(bytes: &[u8], place: usize) -> bool
     requires { place < 8 * length bytes.now }
     ensures { result ≡ slice_index_or (bits_of bytes.now) place false }
 {
@@ -66,6 +66,7 @@ fn word_at(bytes: &[u8], place: usize, width: usize) -> u64
     ensures { result ≡ value_of (take width (drop place (bits_in bytes.now))) }
 {
     let mut word: u64 = 0;
+    // From the highest down, so that each bit doubles those above it.
     for at in (place..place + width).rev() {
         word = 2 * word + u64::from(bit_at(bytes, at));
     }

@@ -4,6 +4,7 @@ ghost use Rattle.codes.specs.Series.{series_from, series_bytes, ReadBack};
 use rules::count::{CountCode, WriteRefusal};
 
 // How many counts of a series were written, the place after them, and why the next was refused, if one was.
+// No `Result`: the count and the place stand in both outcomes.
 #[derive(Clone, Copy)]
 pub struct Series {
     pub written: usize,

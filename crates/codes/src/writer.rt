@@ -1,8 +1,8 @@
-ghost use Rattle.std.specs.Prelude.{◌≡◌, ℕ, ◌*◌, ◌<◌, length, slice_index, slice_set};
+ghost use Rattle.std.specs.Prelude.{◌≡◌, ◌*◌, ◌<◌, length, slice_set};
 ghost use Rattle.rules.specs.Bits.{bits_of, low_bits};
 ghost use Rattle.rules.specs.Calls.{room, laid};
 
-use crate::reader::bit_len;
+use crate::reader::{bit_at, bit_len};
 use rules::count::WriteRefusal;
 
 // Lays the lowest `width` bits of `word` over the buffer's from the place on, and answers the place after them.
@@ -32,9 +32,7 @@ fn set_bit(buffer: &mut [u8], place: usize, bit: bool)
     requires { place < 8 * length buffer.old }
     ensures { bits_of buffer.new ≡ slice_set (bits_of buffer.old) place bit }
 {
-    let byte = buffer[place / 8];
-    let was = (byte >> (place % 8)) % 2 == 1;
-    if was != bit {
-        buffer[place / 8] = byte ^ (1 << (place % 8));
+    if bit_at(buffer, place) != bit {
+        buffer[place / 8] ^= 1 << (place % 8);
     }
 }

@@ -2,6 +2,6 @@ use Rattle.std.proofs.Common.{refl}
 use Rattle.codes.specs.Chunked.{groups, read_groups}
 use Rattle.codes.proofs.worked_examples.Goals as goal
 
-pub returns : goal.returns
+pub returns-clause-hold : goal.returns-clause-hold
 unfolding groups read_groups
-returns c = record { hold = refl; many = refl }
+returns-clause-hold c = refl

@@ -1,5 +1,5 @@
-use Rattle.std.proofs.Common.{◌≡◌, suc, ◌+◌, ◌-◌, ◌*◌, ◌^◌, ◌<◌, ◌≤◌, length, take, drop, ap, ◌∙◌, arith, length-drop, pow_mono}
-use Rattle.rules.specs.Bits.{bit, bits_in, value_of}
+use Rattle.std.proofs.Common.{◌≡◌, suc, ◌+◌, ◌-◌, ◌^◌, ◌<◌, length, take, drop, ap, ◌∙◌, arith, length-drop, pow_mono}
+use Rattle.rules.specs.Bits.{bits_in, value_of}
 use Rattle.rules.proofs.Bits.{length-bits_in, value_of-take_below}
 use Rattle.codes.proofs.Words.{word_more, bit_of}
 use Rattle.codes.proofs.reader.word_at.Goals as goal

@@ -1,59 +1,34 @@
-use Rattle.std.proofs.Common.{◌≡◌, ◌+◌, ◌<◌, length, get_or, take, drop, None, sym, refl, ap, ◌∙◌, subst, arith}
-use Rattle.std.proofs.lemmas.List.{drop_more, drop_all, take_more}
-use Rattle.rules.proofs.Calls.{refused_same}
-use Rattle.codes.specs.Series.{series_from, series_bytes, ReadBack}
-use Rattle.codes.specs.declared.series.Series.{Series}
-use Rattle.codes.proofs.Standing.{Stands, stands_none, stands_more, read_back, series_goes, bytes_go, series_ends, bytes_end}
+use Rattle.std.proofs.Common.{◌≡◌, ◌<◌, length, get_or, take, ◌∙◌, subst, arith}
+use Rattle.codes.specs.Series.{ReadBack}
+use Rattle.codes.proofs.Standing.{series_goes, bytes_go, stands_on, stands_still, read_back}
 use Rattle.codes.proofs.series.write_series.Goals as goal
-
-pub loop-written-init : goal.loop-written-init
-loop-written-init g c = (refl, refl, stands_none (g.C.CountCode.meaning c.args.code.now) c.args.place c.args.buffer.now)
 
 pub loop-written-preserved : goal.loop-written-preserved
 loop-written-preserved g c =
     let m = g.C.CountCode.meaning c.args.code.now in
     let l = c.loop-written in
     let ns = c.args.numbers.now in
-    let n = get_or ns l.written 0 in
     let within : l.written < length ns = omega arith in
-    let rest = drop (l.written + 1) ns in
-    let cons = drop_more ns l.written 0 within in
-    let answer = sym c.write.ensures.answer ∙ c.in-Ok.is in
-    let after = c.write.ensures.bytes in (
-      ap (series_from m (l.written + 1) rest c.in-Ok.after) after ∙ sym (series_goes m l.written n l.next rest l.buffer c.in-Ok.after answer)
-          ∙ ap (λ xs. series_from m l.written xs l.next l.buffer) (sym cons) ∙ l.invariant.0,
-      ap (series_bytes m rest c.in-Ok.after) after ∙ sym (bytes_go m l.written n l.next rest l.buffer c.in-Ok.after answer)
-          ∙ ap (λ xs. series_bytes m xs l.next l.buffer) (sym cons) ∙ l.invariant.1,
-      subst (λ xs. Stands m xs c.args.place c.in-Ok.after c.write.new.buffer) (sym (take_more ns l.written 0 within))
-          (subst (Stands m _ c.args.place c.in-Ok.after) (sym after) (stands_more m (take l.written ns) n c.args.place l.next c.in-Ok.after l.buffer l.invariant.2 answer)),
-    )
-
-pub returns-in-Err : goal.returns-in-Err
-returns-in-Err g c =
-    let m = g.C.CountCode.meaning c.args.code.now in
-    let l = c.loop-written in
-    let ns = c.args.numbers.now in
-    let n = get_or ns l.written 0 in
-    let within : l.written < length ns = omega arith in
-    let rest = drop (l.written + 1) ns in
-    let cons = drop_more ns l.written 0 within in
-    let answer = sym c.write.ensures.answer ∙ c.in-Err.is in
-    let same = c.write.ensures.bytes ∙ refused_same m n l.next l.buffer c.in-Err.refusal answer in
+    let wrote = c.write.ensures in
     record {
-      answer = sym (series_ends m l.written n l.next rest l.buffer c.in-Err.refusal answer) ∙ ap (λ xs. series_from m l.written xs l.next l.buffer) (sym cons) ∙ l.invariant.0;
-      bytes = same ∙ sym (bytes_end m l.written n l.next rest l.buffer c.in-Err.refusal answer) ∙ ap (λ xs. series_bytes m xs l.next l.buffer) (sym cons) ∙ l.invariant.1;
-      readback = read_back m (g.met.C.CountCode.sound c.args.code.now) (take l.written ns) c.args.place l.next c.write.new.buffer (subst (Stands m _ c.args.place l.next) (sym same) l.invariant.2);
+      answer = series_goes m ns l.buffer c.write.new.buffer l.written c.args.place l.next c.in-Ok.after within _ wrote.answer c.in-Ok.is wrote.bytes ∙ l.invariant.answer;
+      bytes = bytes_go m ns l.buffer c.write.new.buffer l.written c.args.place l.next c.in-Ok.after within _ wrote.answer c.in-Ok.is wrote.bytes ∙ l.invariant.bytes;
+      stands = stands_on m ns l.buffer c.write.new.buffer l.written c.args.place l.next c.in-Ok.after within _ wrote.answer c.in-Ok.is wrote.bytes l.invariant.stands;
     }
 
-pub returns : goal.returns
-returns g c =
+pub returns-in-Err-clause-readback : goal.returns-in-Err-clause-readback
+returns-in-Err-clause-readback g c =
     let m = g.C.CountCode.meaning c.args.code.now in
     let l = c.loop-written in
     let ns = c.args.numbers.now in
-    let none = drop_all l.written ns (omega arith) in
+    let done = take l.written ns in
+    let stands = stands_still m done (get_or ns l.written 0) c.args.place l.next l.buffer c.write.new.buffer _ c.in-Err.refusal c.write.ensures.answer c.in-Err.is c.write.ensures.bytes l.invariant.stands in
+    read_back m (g.met.C.CountCode.sound c.args.code.now) done c.args.place l.next c.write.new.buffer stands
+
+pub returns-clause-readback : goal.returns-clause-readback
+returns-clause-readback g c =
+    let m = g.C.CountCode.meaning c.args.code.now in
+    let l = c.loop-written in
+    let ns = c.args.numbers.now in
     let count : l.written ≡ length ns = omega arith in
-    record {
-      answer = sym (ap (λ k. let x : Series = record { written = k; next = l.next; refusal = None } in x) count) ∙ sym (ap (λ xs. series_from m l.written xs l.next l.buffer) none) ∙ l.invariant.0;
-      bytes = sym (ap (λ xs. series_bytes m xs l.next l.buffer) none) ∙ l.invariant.1;
-      readback = subst (λ k. ReadBack m (take k ns) c.args.place l.next l.buffer) count (read_back m (g.met.C.CountCode.sound c.args.code.now) (take l.written ns) c.args.place l.next l.buffer l.invariant.2);
-    }
+    subst (λ k. ReadBack m (take k ns) c.args.place l.next l.buffer) count (read_back m (g.met.C.CountCode.sound c.args.code.now) (take l.written ns) c.args.place l.next l.buffer l.invariant.stands)

@@ -1,4 +1,4 @@
-use Rattle.std.proofs.Common.{◌≡◌, ◌+◌, ◌-◌, ◌/◌, ◌<◌, length, sym, ap, ◌∙◌, arith, rules}
+use Rattle.std.proofs.Common.{◌+◌, ◌-◌, ◌/◌, ◌<◌, length, sym, ap, ◌∙◌, arith}
 use Rattle.rules.specs.Bits.{low_bits, bits_of, bits_in}
 use Rattle.rules.specs.Overlay.{overlay}
 use Rattle.rules.proofs.Bits.{length-low_bits, length-bits_of, length-bits_in}
@@ -15,11 +15,6 @@ returns-then-place-size-clause-bytes c =
       | then-place-size-via-else-place-size+then-size-place w ↦ omega (arith, w.if-place-size.false, w.if-size-place.true, c.bit_len-size.ensures)
     ] in
     sym (not_laid c.args.place (low_bits c.args.width c.args.word) bytes (omega (arith, length-low_bits c.args.width c.args.word)))
-
-pub loop-at-init : goal.loop-at-init
-loop-at-init c =
-    let count : c.args.place + c.args.width - c.args.place ≡ c.args.width = omega arith in
-    (ap (λ n. overlay c.args.place (low_bits n c.args.word) (bits_of c.args.buffer.now)) count, λ k. search rules)
 
 pub set_bit-requires : goal.set_bit-requires
 set_bit-requires c = omega (arith, length-bits_in c.args.buffer.now)

@@ -1,4 +1,4 @@
-use Rattle.std.proofs.Common.{◌≡◌, ℕ, ◌+◌, ◌-◌, ◌<◌, get_or}
+use Rattle.std.proofs.Common.{◌≡◌, ℕ, ◌-◌, ◌<◌, get_or}
 use Rattle.rules.specs.Bits.{bits_of, low_bits}
 use Rattle.rules.specs.Overlay.{overlay}
 use Rattle.codes.proofs.writer.write_bits.Given as goal

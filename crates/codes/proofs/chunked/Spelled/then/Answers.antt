@@ -1,21 +1,32 @@
-use Rattle.std.proofs.Common.{◌+◌, ap, ◌∙◌, arith, pow_mono}
+use Rattle.std.proofs.Common.{◌+◌, ap, ◌∙◌, arith, length, pow_mono}
 use Rattle.rules.specs.Bits.{low_bits}
-use Rattle.codes.proofs.Spelling.{above, joined_below, joined_bits}
+use Rattle.rules.proofs.Bits.{length-low_bits}
+use Rattle.codes.proofs.Spelling.{put}
 use Rattle.codes.proofs.chunked.Spelled.then.Goals as goal
+
+pub overflow_shl-result : goal.overflow_shl-result
+overflow_shl-result c = omega (arith, ap length c.self.view_is, length-low_bits c.self.inside.size c.self.inside.word)
 
 pub overflow_add-result : goal.overflow_add-result
 overflow_add-result c =
-    let s = c.args.self in
-    let whole = above s.word c.args.bits s.size c.args.width c.requires.below c.requires.small c.requires.fits in
-    let below = joined_below s.word c.args.bits s.size c.args.width c.requires.below c.requires.small in
-    record { fits = omega (arith, whole, below, pow_mono {i = s.size + c.args.width} {j = 64} c.requires.fits) }
+    let s = c.self.inside in
+    let p = put s.word s.size c.args.width c.args.number _ _ c.args.self c.self.view_is c.self.invariant c.requires.narrow c.requires.fits c.lowest.ensures c.from.ensures in
+    record { fits = omega (arith, p.is, p.below, pow_mono {i = s.size + c.args.width + 1} {j = 64} (omega (arith, p.fits))) }
+
+pub overflow_add-result-2 : goal.overflow_add-result-2
+overflow_add-result-2 c = record { fits = omega (arith, ap length c.self.view_is, length-low_bits c.self.inside.size c.self.inside.word) }
+
+pub overflow_add-result-3 : goal.overflow_add-result-3
+overflow_add-result-3 c = record { fits = omega (arith, ap length c.self.view_is, length-low_bits c.self.inside.size c.self.inside.word) }
+
+pub invariant_of-result : goal.invariant_of-result
+invariant_of-result c =
+    let s = c.self.inside in
+    let p = put s.word s.size c.args.width c.args.number _ _ c.args.self c.self.view_is c.self.invariant c.requires.narrow c.requires.fits c.lowest.ensures c.from.ensures in
+    omega (arith, p.is, p.below)
 
 pub returns : goal.returns
 returns c =
-    let s = c.args.self in
-    let whole = above s.word c.args.bits s.size c.args.width c.requires.below c.requires.small c.requires.fits in
-    record {
-      below = omega (arith, whole, joined_below s.word c.args.bits s.size c.args.width c.requires.below c.requires.small);
-      size = omega arith;
-      bits = ap (λ x. low_bits (s.size + c.args.width) (s.word + x)) whole ∙ joined_bits s.word c.args.bits s.size c.args.width c.requires.below c.requires.small;
-    }
+    let s = c.self.inside in
+    let p = put s.word s.size c.args.width c.args.number _ _ c.args.self c.self.view_is c.self.invariant c.requires.narrow c.requires.fits c.lowest.ensures c.from.ensures in
+    ap (λ x. low_bits (s.size + c.args.width + 1) (s.word + x)) p.is ∙ p.bits
