@@ -6,8 +6,9 @@ ghost use Rattle.programs.specs.Making.{Makes};
 ghost use Rattle.programs.specs.Fits.{below_append, all_below};
 ghost use Rattle.std.proofs.Common.{rules};
 
-use crate::instruction::{Instruction, Op, decoded, loaded_into};
+use crate::instruction::{Instruction, Op};
 use crate::refusal::{LONGEST, ProgramRefusal};
+use crate::register::Register;
 use rules::program::{Program, Want};
 use std::alloc::Global;
 
@@ -55,39 +56,37 @@ impl Core {
         }
     }
 
-    fn register(&self, i: usize) -> u32
-        requires { i < 8 }
+    fn register(&self, i: Register) -> u32
         ensures { result ≡ register_at (core_state self.now.place self.now.registers self.now.words.items) i }
     {
-        self.registers[i]
+        self.registers[i.number()]
     }
 
     // Moves on to the next word, with the number in register `d`.
-    fn put(&mut self, d: usize, number: u32)
-        requires { (d < 8) × (self.old.place + 1 < 2 ^ 64) }
+    fn put(&mut self, d: Register, number: u32)
+        requires { self.old.place + 1 < 2 ^ 64 }
         ensures { core_state self.new.place self.new.registers self.new.words.items ≡ with_number d number (core_state self.old.place self.old.registers self.old.words.items) }
     {
         self.place += 1;
-        self.registers[d] = number;
+        self.registers[d.number()] = number;
     }
 
-    fn address(&self, i: Instruction) -> u32
-        requires { i.s < 8 }
-        ensures { result ≡ address_by i (core_state self.now.place self.now.registers self.now.words.items) }
+    fn address(&self, i: &Instruction) -> u32
+        ensures { result ≡ address_by i.now (core_state self.now.place self.now.registers self.now.words.items) }
     {
         self.register(i.s).wrapping_add(i.k)
     }
 
     // Does what the instruction asks; `value` is what a load gets.
     fn follow(&mut self, i: Instruction, value: u64)
-        requires { (i.d < 8) × ((i.s < 8) × (self.old.place + 1 < 2 ^ 64)) }
+        requires { self.old.place + 1 < 2 ^ 64 }
         ensures { core_state self.new.place self.new.registers self.new.words.items ≡ next_by i.op i value (core_state self.old.place self.old.registers self.old.words.items) }
     {
         match i.op {
             Op::Constant => self.put(i.d, i.k),
-            Op::AddConstant => self.put(i.d, self.address(i)),
+            Op::AddConstant => self.put(i.d, self.address(&i)),
             Op::AddRegister => self.put(i.d, self.register(i.d).wrapping_add(self.register(i.s))),
-            Op::Load(size) => self.put(i.d, loaded_into(size, value)),
+            Op::Load(size) => self.put(i.d, size.low(value)),
             Op::Store(_) => self.place += 1,
             Op::Jump => self.place = if self.register(i.d) == 0 {
                 self.place + 1
@@ -109,15 +108,15 @@ impl Program for Core {
     ghost lawful = { Prim.search rules };
 
     fn want(&self) -> Want {
-        let i = decoded(self.word());
+        let i = Instruction::from(self.word());
         match i.op {
             Op::Constant | Op::AddConstant | Op::AddRegister | Op::Jump => Want::Quiet,
             Op::Load(size) => Want::Load {
-                address: self.address(i),
+                address: self.address(&i),
                 size: size.bytes(),
             },
             Op::Store(size) => Want::Store {
-                address: self.address(i),
+                address: self.address(&i),
                 size: size.bytes(),
                 value: u64::from(size.low(u64::from(self.register(i.d)))),
             },
@@ -127,7 +126,7 @@ impl Program for Core {
 
     fn go(&mut self, value: u64) {
         if self.place < self.words.len() {
-            let i = decoded(self.word());
+            let i = Instruction::from(self.word());
             self.follow(i, value);
         }
     }

@@ -8,13 +8,13 @@ invariant_of-self c =
     let p = c.args.self.now in
     record {
       few = p.few;
-      place64 = c.requires.1;
+      place64 = c.requires;
       eight = simp length-set p.eight;
-      registers64 = below_set p.registers c.args.d c.args.number (omega arith) p.registers64;
+      registers64 = below_set p.registers c.number.result c.args.number (omega arith) p.registers64;
       words64 = p.words64;
     }
 
 pub returns : goal.returns
 returns c =
     let p = c.args.self.now in
-    number_is p.place p.registers (vec_items p.words) c.args.d c.args.number (omega arith)
+    rw c.number.ensures.value (number_is p.place p.registers (vec_items p.words) c.args.d c.args.number (omega arith))

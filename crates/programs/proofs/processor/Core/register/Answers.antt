@@ -5,4 +5,4 @@ use Rattle.programs.proofs.processor.Core.register.Goals as goal
 pub returns : goal.returns
 returns c =
     let p = c.args.self.now in
-    register_is p.place p.registers (vec_items p.words) c.args.i (omega arith)
+    rw c.number.ensures.value (register_is p.place p.registers (vec_items p.words) c.args.i (omega arith))
