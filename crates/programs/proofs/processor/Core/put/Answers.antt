@@ -1,5 +1,5 @@
-use Rattle.std.proofs.Common.{vec_items, arith, length-set}
-use Rattle.programs.specs.Fits.{below_set}
+use Rattle.std.proofs.Common.{◌^◌, ◌<◌, vec_items, arith, length-set}
+use Rattle.std.proofs.lemmas.List.Elements.{All-set}
 use Rattle.programs.proofs.Registers.{number_is}
 use Rattle.programs.proofs.processor.Core.put.Goals as goal
 
@@ -10,7 +10,7 @@ invariant_of-self c =
       few = p.few;
       place64 = c.requires;
       eight = simp length-set p.eight;
-      registers64 = below_set p.registers c.number.result c.args.number (omega arith) p.registers64;
+      registers64 = All-set (λ n. n < 2 ^ 64) p.registers c.number.result c.args.number (omega arith) p.registers64;
       words64 = p.words64;
     }
 
