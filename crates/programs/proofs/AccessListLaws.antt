@@ -5,7 +5,7 @@ use Rattle.std.proofs.lemmas.Bool.{cond_both, or_parts}
 use Rattle.rules.specs.Program.{ran}
 use Rattle.rules.specs.declared.program.Want.TheVariants.{Ended}
 use Rattle.programs.specs.declared.list.ListedAccess.{ListedAccess}
-use Rattle.programs.specs.AccessList.{list_state, access_at, number_of, moved_on, list_next, list_behaviour, front, last_loaded, ListRuns}
+use Rattle.programs.specs.AccessList.{list_state, access_at, number_of, moved_on, list_next, list_behaviour, front, last_loaded, WantsInOrder, MovesOn}
 use Rattle.programs.specs.ListedAccess.{want_of, loads_or_stores}
 use Rattle.programs.proofs.Numbers.{past, access_is}
 
@@ -35,7 +35,7 @@ module _ (s : List ℕ) where
 module _ (xs : List ListedAccess) where
   -- the access at the place is the first of those left
   access_first : (place last : ℕ) (left : List ListedAccess) → drop place xs ≡ left → access_at (list_state place last xs) ≡ get_or left 0 past
-  access_first place last left e = access_is place last xs ∙ grind (arith, get_or-drop)
+  access_first place last left e = sym (access_is place last xs) ∙ grind (arith, get_or-drop)
 
   -- the state after a run with these accesses left, and its want
   abbrev Runs : ℕ → ℕ → List ListedAccess → List ℕ → Type 0
@@ -67,9 +67,9 @@ module _ (xs : List ListedAccess) where
       (λ t. (on t ∙ more.0 ∙ ap₂ (λ (p l : ℕ). list_state p (last_loaded l (front rest) vs) xs) place_is last-is, ap (λ u. want_of (access_at u)) (on t) ∙ more.1))
       (λ f. ended place last (v ∷ vs) (ap loads_or_stores at ∙ f))
 
-pub list_runs_lem : (accesses : List ListedAccess) → ListRuns accesses
-list_runs_lem accesses =
-    record {
-      wants = λ values. (runs accesses values 0 0 accesses refl).1;
-      moves = λ values. (runs accesses values 0 0 accesses refl).0 ∙ ap (λ p. list_state p (last_loaded 0 (front accesses) values) accesses) (omega arith);
-    }
+pub list_wants : (accesses : List ListedAccess) → WantsInOrder accesses
+list_wants accesses values = (runs accesses values 0 0 accesses refl).1
+
+pub list_moves : (accesses : List ListedAccess) → MovesOn accesses
+list_moves accesses values =
+    (runs accesses values 0 0 accesses refl).0 ∙ ap (λ p. list_state p (last_loaded 0 (front accesses) values) accesses) (omega arith)

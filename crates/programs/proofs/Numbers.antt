@@ -19,6 +19,6 @@ number_at (a ∷ xs) (suc place) i h =
     let e : 4 * suc place + i ≡ suc (suc (suc (suc (4 * place + i)))) = omega arith in
     rw e (number_at xs place i h)
 
-pub access_is : (place last : ℕ) (xs : List ListedAccess) → access_at (list_state place last xs) ≡ get_or xs place past
+pub access_is : (place last : ℕ) (xs : List ListedAccess) → get_or xs place past ≡ access_at (list_state place last xs)
 access_is place last xs =
-    rw (number_at xs place 0 (omega arith), number_at xs place 1 (omega arith), number_at xs place 2 (omega arith), number_at xs place 3 (omega arith))
+    sym (rw (number_at xs place 0 (omega arith), number_at xs place 1 (omega arith), number_at xs place 2 (omega arith), number_at xs place 3 (omega arith)))

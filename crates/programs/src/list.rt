@@ -10,9 +10,14 @@ use crate::refusal::{ProgramRefusal, copied};
 use rules::program::{Program, Want};
 use std::alloc::Global;
 
-// Kind 1 is a load and kind 2 a store; a list ends at any other kind.
+const LOAD: u8 = 1;
+
+const STORE: u8 = 2;
+
+// A load or a store; a list ends at an access of any other kind.
 #[derive(Clone, Copy)]
 pub struct ListedAccess {
+    // No enum, since the state tells each kind by its number, also those that only end the list.
     pub kind: u8,
     pub address: u32,
     pub size: u8,
@@ -41,6 +46,7 @@ pub struct AccessList {
 impl AccessList {
     ghost use Rattle.programs.specs.AccessList.{list_state, state_of, access_at, ListRuns};
 
+    #[tactic(auto, using(crate::proofs::AccessListLaws::list_wants, crate::proofs::AccessListLaws::list_moves))]
     pub fn new(heap: Global, accesses: &[ListedAccess]) -> Result<AccessList, ProgramRefusal>
         ensures made { Makes (length accesses.now) (list_state 0 0 accesses.now) (on_ok state_of result) }
         ensures runs { ListRuns accesses.now }
@@ -76,11 +82,11 @@ impl Program for AccessList {
     fn want(&self) -> Want {
         let access = self.access();
         match access.kind {
-            1 => Want::Load {
+            LOAD => Want::Load {
                 address: access.address,
                 size: access.size,
             },
-            2 => Want::Store {
+            STORE => Want::Store {
                 address: access.address,
                 size: access.size,
                 value: access.value,
@@ -91,11 +97,11 @@ impl Program for AccessList {
 
     fn go(&mut self, value: u64) {
         match self.access().kind {
-            1 => {
+            LOAD => {
                 self.place += 1;
                 self.last = value;
             }
-            2 => self.place += 1,
+            STORE => self.place += 1,
             _ => {}
         }
     }

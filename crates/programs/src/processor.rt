@@ -26,6 +26,7 @@ pub struct Core {
 impl Core {
     ghost use Rattle.programs.specs.Core.{core_state, state_of, register_at, word_at, address_by, with_number, next_by, CoreRuns};
 
+    #[tactic(auto, using(crate::proofs::CoreLaws::core_runs_lem))]
     pub fn new(heap: Global, words: &[u32]) -> Result<Core, ProgramRefusal>
         ensures made { Makes (length words.now) (core_state 0 (replicate 8 0) words.now) (on_ok state_of result) }
         ensures runs { CoreRuns words.now }
@@ -38,12 +39,14 @@ impl Core {
     }
 
     // The word at the place, and 0 past the words.
+    #[tactic(auto, using(crate::proofs::Registers::word_is))]
     fn word(&self) -> u32
         ensures { result ≡ word_at (state_of self.now) }
     {
         self.words.get(self.place).copied().unwrap_or(0)
     }
 
+    #[tactic(auto, using(crate::proofs::Registers::register_is))]
     fn register(&self, i: Register) -> u32
         ensures { result ≡ register_at (state_of self.now) i }
     {
@@ -51,6 +54,7 @@ impl Core {
     }
 
     // Moves on to the next word, with the number in register `d`.
+    #[tactic(auto, using(crate::proofs::Registers::number_is))]
     fn put(&mut self, d: Register, number: u32)
         requires { self.old.place + 1 < 2 ^ 64 }
         ensures { state_of self.new ≡ with_number d number (state_of self.old) }
@@ -114,6 +118,7 @@ impl Program for Core {
         }
     }
 
+    #[tactic(auto, using(crate::proofs::Registers::past_stays))]
     fn go(&mut self, value: u64) {
         if self.place < self.words.len() {
             let i = Instruction::from(self.word());

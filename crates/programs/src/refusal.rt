@@ -17,10 +17,10 @@ pub enum ProgramRefusal {
 }
 
 impl From<AllocError> for ProgramRefusal {
-    ghost from_gives = { λ fault refusal. refusal ≡ NoMemory fault };
+    ghost from_gives = { λ error refusal. refusal ≡ NoMemory error };
 
-    fn from(fault: AllocError) -> ProgramRefusal {
-        ProgramRefusal::NoMemory(fault)
+    fn from(error: AllocError) -> ProgramRefusal {
+        ProgramRefusal::NoMemory(error)
     }
 }
 
