@@ -81,7 +81,7 @@ impl From<u32> for Instruction {
 
     fn from(word: u32) -> Instruction {
         Instruction {
-            op: Op::from((word >> 28) % 16),
+            op: Op::from(word >> 28),
             d: Register::from_bits(word >> 24),
             s: Register::from_bits(word >> 20),
             k: word % 0x1_0000,

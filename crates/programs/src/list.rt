@@ -4,7 +4,7 @@ ghost use Rattle.std.proofs.Common.{rules};
 ghost use Rattle.std.proofs.lemmas.List.Elements.{recursion_from_All};
 ghost use Rattle.rules.specs.Views.{on_ok};
 ghost use Rattle.programs.specs.ListedAccess.{numbers_of};
-ghost use Rattle.programs.specs.Making.{Makes};
+ghost use Rattle.programs.specs.Making.{Makes, longest};
 
 use crate::refusal::{ProgramRefusal, copied};
 use rules::program::{Program, Want};
@@ -37,7 +37,7 @@ pub struct AccessList {
     accesses: Vec<ListedAccess>,
     place: usize,
     last: u64,
-    ghost few: { vec_len accesses ≤ 1024 },
+    ghost few: { vec_len accesses ≤ longest },
     ghost place64: { place < 2 ^ 64 },
     ghost last64: { last < 2 ^ 64 },
     ghost numbers64: { All (λ n. n < 2 ^ 64) (flat_map numbers_of accesses.items) },
@@ -107,16 +107,13 @@ impl Program for AccessList {
     }
 }
 
-// This and the next do nothing at run time: that an access's numbers are below 2^64 is known to a proof only of an
-// access passed by value, and not of the elements of a slice.
+// Does nothing at run time: a proof knows that numbers of an access are below 2^64 only where the access is used.
+#[tactic(auto, using(crate::proofs::Numbers::below_more))]
 fn holds_numbers(accesses: &[ListedAccess])
     ensures { All (λ n. n < 2 ^ 64) (flat_map numbers_of accesses.now) }
 {
     for access in accesses {
-        holds_four(*access);
+        let access = *access;
+        prove!(access.value <= u64::MAX);
     }
 }
-
-fn holds_four(access: ListedAccess)
-    ensures { All (λ n. n < 2 ^ 64) (numbers_of access) }
-{}

@@ -2,7 +2,7 @@ ghost use Rattle.std.specs.Prelude.{◌≡◌, ◌+◌, ◌^◌, ◌<◌, ◌≤
 ghost use Rattle.std.proofs.Common.{rules};
 ghost use Rattle.std.proofs.lemmas.List.Elements.{All-append, recursion_from_All};
 ghost use Rattle.rules.specs.Views.{on_ok};
-ghost use Rattle.programs.specs.Making.{Makes};
+ghost use Rattle.programs.specs.Making.{Makes, longest};
 
 use crate::instruction::{Instruction, Op};
 use crate::refusal::{ProgramRefusal, copied};
@@ -16,7 +16,7 @@ pub struct Core {
     place: usize,
     registers: [u32; 8],
     words: Vec<u32>,
-    ghost few: { vec_len words ≤ 1024 },
+    ghost few: { vec_len words ≤ longest },
     ghost place64: { place < 2 ^ 64 },
     ghost eight: { length registers ≡ 8 },
     ghost registers64: { All (λ n. n < 2 ^ 64) registers },
