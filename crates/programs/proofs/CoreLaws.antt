@@ -50,5 +50,5 @@ module _ (words : List ℕ) where
       let taken = take_at registers words 8 eight in
       record { same = drop_at registers words 8 eight; eight = ap length taken ∙ eight; below = rw taken (recursion_from_All (λ r. r < 2 ^ 32) registers below) }
 
-  pub core_runs_lem : CoreRuns words
-  core_runs_lem values = keeps (run_fits values (fits 0 (replicate 8 0) refl (All-replicate (λ r. r < 2 ^ 32) 8 0 (omega arith))))
+  pub core_runs : CoreRuns words
+  core_runs values = keeps (run_fits values (fits 0 (replicate 8 0) refl (All-replicate (λ r. r < 2 ^ 32) 8 0 (omega arith))))

@@ -17,7 +17,7 @@ const STORE: u8 = 2;
 // A load or a store; a list ends at an access of any other kind.
 #[derive(Clone, Copy)]
 pub struct ListedAccess {
-    // No enum, since the state tells each kind by its number, also those that only end the list.
+    // No enum: the state tells each kind's number, and a case for the others would have to leave out 1 and 2.
     pub kind: u8,
     pub address: u32,
     pub size: u8,

@@ -26,7 +26,7 @@ pub struct Core {
 impl Core {
     ghost use Rattle.programs.specs.Core.{core_state, state_of, register_at, word_at, address_by, with_number, next_by, CoreRuns};
 
-    #[tactic(auto, using(crate::proofs::CoreLaws::core_runs_lem))]
+    #[tactic(auto, using(crate::proofs::CoreLaws::core_runs))]
     pub fn new(heap: Global, words: &[u32]) -> Result<Core, ProgramRefusal>
         ensures made { Makes (length words.now) (core_state 0 (replicate 8 0) words.now) (on_ok state_of result) }
         ensures runs { CoreRuns words.now }
