@@ -1,8 +1,7 @@
 -- A core keeps its words, and its registers fit, over a whole run.
-use Rattle.std.proofs.Common.{◌≡◌, ℕ, ◌+◌, ◌^◌, ◌<◌, List, [], ◌∷◌, length, set, replicate, refl, ap, ◌∙◌, subst, arith}
-use Rattle.std.specs.List.{AllByRecursion}
-use Rattle.std.proofs.ByRecursion.{All-set}
+use Rattle.std.proofs.Common.{◌≡◌, ℕ, ◌+◌, ◌^◌, ◌<◌, All, List, [], ◌∷◌, length, set, replicate, refl, ap, ◌∙◌, subst, arith}
 use Rattle.std.proofs.lemmas.List.{length-set, take_at, drop_at}
+use Rattle.std.proofs.lemmas.List.Elements.{All-set, All-replicate, recursion_from_All}
 use Rattle.rules.specs.Program.{ran}
 use Rattle.programs.specs.declared.instruction.Instruction.{Instruction}
 use Rattle.programs.specs.declared.instruction.Op.{Op}
@@ -21,7 +20,7 @@ loaded_below Four value = omega arith
 module _ (words : List ℕ) where
   -- a state with the words, and with eight registers that fit
   data Fits : List ℕ → Type 0 where
-    fits : (place : ℕ) (registers : List ℕ) → length registers ≡ 8 → AllByRecursion (λ r. r < 2 ^ 32) registers → Fits (core_state place registers words)
+    fits : (place : ℕ) (registers : List ℕ) → length registers ≡ 8 → All (λ r. r < 2 ^ 32) registers → Fits (core_state place registers words)
 
   number_fits : {state : List ℕ} (d number : ℕ) → Fits state → d < 8 → number < 2 ^ 32 → Fits (with_number d number state)
   number_fits d number (fits place registers eight below) h small =
@@ -49,7 +48,7 @@ module _ (words : List ℕ) where
   keeps : {state : List ℕ} → Fits state → CoreKeeps words state
   keeps (fits place registers eight below) =
       let taken = take_at registers words 8 eight in
-      record { same = drop_at registers words 8 eight; eight = ap length taken ∙ eight; below = rw taken below }
+      record { same = drop_at registers words 8 eight; eight = ap length taken ∙ eight; below = rw taken (recursion_from_All (λ r. r < 2 ^ 32) registers below) }
 
-  pub core_runs_lem : CoreRuns words
-  core_runs_lem values = keeps (run_fits values (fits 0 (replicate 8 0) refl (search arith)))
+  pub core_runs : CoreRuns words
+  core_runs values = keeps (run_fits values (fits 0 (replicate 8 0) refl (All-replicate (λ r. r < 2 ^ 32) 8 0 (omega arith))))

@@ -16,11 +16,8 @@ pub number_is : (place : ℕ) (registers words : List ℕ) (d number : ℕ) → 
 number_is place registers words d number h =
     sym (rw one-add (ap (λ ns. (place + 1) ∷ ns) (set-append_left registers words d number h)))
 
-pub word_past : (place : ℕ) (registers words : List ℕ) → length registers ≡ 8 → length words ≤ place → 0 ≡ word_at (core_state place registers words)
-word_past place registers words eight past = sym (get_or_past words place 0 past) ∙ word_is place registers words eight
-
 -- a core past its words stays
 pub past_stays : (place : ℕ) (registers words : List ℕ) (value : ℕ) → length registers ≡ 8 → length words ≤ place
     → core_state place registers words ≡ core_next (core_state place registers words) value
 past_stays place registers words value eight past =
-    ap (λ w. next_by (instruction_of w).op (instruction_of w) value (core_state place registers words)) (word_past place registers words eight past)
+    ap (λ w. next_by (instruction_of w).op (instruction_of w) value (core_state place registers words)) (sym (get_or_past words place 0 past) ∙ word_is place registers words eight)

@@ -1,17 +1,18 @@
 -- A program that is a list of accesses. Its state: the place in the list, the value loaded last, and four numbers
 -- for each access.
-use Rattle.std.specs.Prelude.{◌≡◌, ℕ, ◌+◌, ◌*◌, min, Bool, cond, ◌||◌, List, [], ◌∷◌, map, length, drop, ◌==◌, slice_index, slice_index_or, slice_set}
+use Rattle.std.specs.Prelude.{◌≡◌, ℕ, ◌+◌, ◌*◌, min, cond, List, [], ◌∷◌, map, length, drop, ◌==◌, slice_index, slice_index_or, slice_set}
 use Rattle.std.specs.List.{flat_map}
 use Rattle.rules.specs.Program.{Behaviour, ran}
-use Rattle.rules.specs.declared.program.Want.{Want}
-use Rattle.rules.specs.declared.program.Want.TheVariants.{Load, Store, Ended}
+use Rattle.rules.specs.declared.program.Want.TheVariants.{Ended}
+use Rattle.programs.specs.declared.list.AccessList.{AccessList}
 use Rattle.programs.specs.declared.list.ListedAccess.{ListedAccess}
-
-abbrev pub numbers_of : ListedAccess → List ℕ
-numbers_of a = a.kind ∷ a.address ∷ a.size ∷ a.value ∷ []
+use Rattle.programs.specs.ListedAccess.{numbers_of, want_of, loads_or_stores}
 
 abbrev pub list_state : ℕ → ℕ → List ListedAccess → List ℕ
 list_state place last accesses = place ∷ last ∷ flat_map numbers_of accesses
+
+abbrev pub state_of : AccessList → List ℕ
+state_of p = list_state p.place p.last p.accesses.items
 
 -- one number of the access at the place, and 0 past the last access
 abbrev pub number_of : List ℕ → ℕ → ℕ
@@ -25,9 +26,6 @@ access_at s = record {
   value = number_of s 3;
 }
 
-abbrev pub want_of : ListedAccess → Want
-want_of a = cond (a.kind == 1) (Load a.address a.size) (cond (a.kind == 2) (Store a.address a.size a.value) Ended)
-
 -- one place on, with the value loaded last
 abbrev pub moved_on : ℕ → List ℕ → List ℕ
 moved_on last s = slice_set (slice_set s 0 (slice_index s 0 + 1)) 1 last
@@ -37,9 +35,6 @@ list_next s v = cond (number_of s 0 == 1) (moved_on v s) (cond (number_of s 0 ==
 
 abbrev pub list_behaviour : Behaviour
 list_behaviour = record { want = λ s. want_of (access_at s); next = list_next }
-
-abbrev pub loads_or_stores : ListedAccess → Bool
-loads_or_stores a = a.kind == 1 || a.kind == 2
 
 -- the accesses up to the first that is neither a load nor a store
 abbrev pub front : List ListedAccess → List ListedAccess

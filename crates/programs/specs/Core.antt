@@ -7,10 +7,14 @@ use Rattle.rules.specs.declared.program.Want.TheVariants as want
 use Rattle.programs.specs.declared.instruction.Op.{Op}
 use Rattle.programs.specs.declared.instruction.Op.TheVariants.{Constant, AddConstant, AddRegister, Load, Store, Jump, Other}
 use Rattle.programs.specs.declared.instruction.Instruction.{Instruction}
+use Rattle.programs.specs.declared.processor.Core.{Core}
 use Rattle.programs.specs.Instruction.{size_bytes, instruction_of, loaded_into}
 
 abbrev pub core_state : ℕ → List ℕ → List ℕ → List ℕ
 core_state place registers words = place ∷ (registers ++ words)
+
+abbrev pub state_of : Core → List ℕ
+state_of p = core_state p.place p.registers p.words.items
 
 abbrev pub register_at : List ℕ → ℕ → ℕ
 register_at state i = slice_index (drop 1 state) i

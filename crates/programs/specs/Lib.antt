@@ -1,7 +1,6 @@
 pub mod AccessList
-pub mod Below
 pub mod Core
 pub mod Instruction
+pub mod ListedAccess
 pub mod Making
 pub mod Refusal
-pub mod Fits

@@ -1,5 +1,5 @@
--- What making a program of some length answers, told by the state that is made.
-use Rattle.std.specs.Prelude.{◌≡◌, ℕ, ◌<◌, ◌≤◌, List, Ok, Err, Result}
+-- What making a program of some length answers, told by what is made: its first state, or the copy of its items.
+use Rattle.std.specs.Prelude.{◌≡◌, ℕ, ◌<◌, ◌≤◌, Ok, Err, Result}
 use Rattle.programs.specs.declared.refusal.ProgramRefusal.{ProgramRefusal}
 use Rattle.programs.specs.declared.refusal.ProgramRefusal.TheVariants.{TooLong, NoMemory}
 
@@ -11,6 +11,6 @@ abbrev pub Refuses : ℕ → ProgramRefusal → Type 0
 Refuses count TooLong = longest < count
 Refuses count (NoMemory e) = count ≤ longest
 
-abbrev pub Makes : ℕ → List ℕ → Result (List ℕ) ProgramRefusal → Type 0
-Makes count first (Ok state) = (count ≤ longest) × (state ≡ first)
+abbrev pub Makes : {A : Type 0} → ℕ → A → Result A ProgramRefusal → Type 0
+Makes count first (Ok made) = (count ≤ longest) × (made ≡ first)
 Makes count first (Err refusal) = Refuses count refusal

@@ -1,5 +1,7 @@
-ghost use Rattle.std.specs.Prelude.{◌≡◌, ◌%◌, ◌^◌, ◌<◌};
-ghost use Rattle.programs.specs.Instruction.{size_bytes, op_numbered, instruction_of, loaded_into};
+ghost use Rattle.std.specs.Prelude.{◌≡◌, ◌%◌, ◌^◌};
+ghost use Rattle.programs.specs.Instruction.{size_bytes, op_numbered, instruction_of};
+
+use crate::register::Register;
 
 // How many bytes a load or a store moves.
 #[derive(Clone, Copy)]
@@ -45,48 +47,44 @@ pub enum Op {
     Other,
 }
 
-// A word taken apart: as decoded, `d` and `s` are below 8 and `k` is below 2^16.
+impl From<u32> for Op {
+    ghost from_gives = { λ number op. op ≡ op_numbered number };
+
+    fn from(number: u32) -> Op {
+        match number {
+            1 => Op::Constant,
+            2 => Op::AddConstant,
+            3 => Op::AddRegister,
+            4 => Op::Load(Size::One),
+            5 => Op::Load(Size::Two),
+            6 => Op::Load(Size::Four),
+            7 => Op::Store(Size::One),
+            8 => Op::Store(Size::Two),
+            9 => Op::Store(Size::Four),
+            10 => Op::Jump,
+            _ => Op::Other,
+        }
+    }
+}
+
+// A word taken apart: `k` is below 2^16.
 #[derive(Clone, Copy)]
 pub struct Instruction {
     pub op: Op,
-    pub d: usize,
-    pub s: usize,
+    pub d: Register,
+    pub s: Register,
     pub k: u32,
 }
 
-pub(crate) fn decoded(word: u32) -> Instruction
-    ensures value { result ≡ instruction_of word }
-    ensures names { (result.d < 8) × (result.s < 8) }
-{
-    Instruction {
-        op: op_numbered((word >> 28) % 16),
-        d: (word >> 24) as usize % 8,
-        s: (word >> 20) as usize % 8,
-        k: word % 0x1_0000,
-    }
-}
+impl From<u32> for Instruction {
+    ghost from_gives = { λ word i. i ≡ instruction_of word };
 
-fn op_numbered(number: u32) -> Op
-    ensures { result ≡ op_numbered number }
-{
-    match number {
-        1 => Op::Constant,
-        2 => Op::AddConstant,
-        3 => Op::AddRegister,
-        4 => Op::Load(Size::One),
-        5 => Op::Load(Size::Two),
-        6 => Op::Load(Size::Four),
-        7 => Op::Store(Size::One),
-        8 => Op::Store(Size::Two),
-        9 => Op::Store(Size::Four),
-        10 => Op::Jump,
-        _ => Op::Other,
+    fn from(word: u32) -> Instruction {
+        Instruction {
+            op: Op::from(word >> 28),
+            d: Register::from_bits(word >> 24),
+            s: Register::from_bits(word >> 20),
+            k: word % 0x1_0000,
+        }
     }
-}
-
-// What a load puts into its register.
-pub(crate) fn loaded_into(size: Size, value: u64) -> u32
-    ensures { result ≡ loaded_into size value }
-{
-    size.low(value)
 }

@@ -5,5 +5,6 @@ mod instruction;
 pub mod list;
 pub mod processor;
 pub mod refusal;
+mod register;
 #[cfg(test)]
 mod tests;

@@ -1,13 +1,12 @@
-ghost use Rattle.std.specs.Prelude.{◌≡◌, ◌+◌, ◌^◌, ◌<◌, ◌≤◌, length, replicate, vec_len};
-ghost use Rattle.rules.specs.Views.{on_ok};
-ghost use Rattle.programs.specs.Below.{Below64};
-ghost use Rattle.programs.specs.Core.{core_state, core_behaviour, register_at, word_at, address_by, with_number, next_by, CoreRuns};
-ghost use Rattle.programs.specs.Making.{Makes};
-ghost use Rattle.programs.specs.Fits.{below_append, all_below};
+ghost use Rattle.std.specs.Prelude.{◌≡◌, ◌+◌, ◌^◌, ◌<◌, ◌≤◌, All, length, replicate, vec_len};
 ghost use Rattle.std.proofs.Common.{rules};
+ghost use Rattle.std.proofs.lemmas.List.Elements.{All-append, recursion_from_All};
+ghost use Rattle.rules.specs.Views.{on_ok};
+ghost use Rattle.programs.specs.Making.{Makes, longest};
 
-use crate::instruction::{Instruction, Op, decoded, loaded_into};
-use crate::refusal::{LONGEST, ProgramRefusal};
+use crate::instruction::{Instruction, Op};
+use crate::refusal::{ProgramRefusal, copied};
+use crate::register::Register;
 use rules::program::{Program, Want};
 use std::alloc::Global;
 
@@ -17,77 +16,69 @@ pub struct Core {
     place: usize,
     registers: [u32; 8],
     words: Vec<u32>,
-    ghost few: { vec_len words ≤ 1024 },
+    ghost few: { vec_len words ≤ longest },
     ghost place64: { place < 2 ^ 64 },
     ghost eight: { length registers ≡ 8 },
-    ghost registers64: { Below64 registers },
-    ghost words64: { Below64 words.items },
+    ghost registers64: { All (λ n. n < 2 ^ 64) registers },
+    ghost words64: { All (λ n. n < 2 ^ 64) words.items },
 }
 
 impl Core {
+    ghost use Rattle.programs.specs.Core.{core_state, state_of, register_at, word_at, address_by, with_number, next_by, CoreRuns};
+
+    #[tactic(auto, using(crate::proofs::CoreLaws::core_runs))]
     pub fn new(heap: Global, words: &[u32]) -> Result<Core, ProgramRefusal>
-        ensures made { Makes (length words.now) (core_state 0 (replicate 8 0) words.now) (on_ok (λ p. core_state p.place p.registers p.words.items) result) }
+        ensures made { Makes (length words.now) (core_state 0 (replicate 8 0) words.now) (on_ok state_of result) }
         ensures runs { CoreRuns words.now }
     {
-        core_runs(words);
-        if words.len() > LONGEST {
-            return Err(ProgramRefusal::TooLong);
-        }
-        holds_words(words);
-        match Vec::from_slice(heap, words) {
-            Ok(words) => Ok(Core {
-                place: 0,
-                registers: [0; 8],
-                words,
-            }),
-            Err(fault) => Err(ProgramRefusal::NoMemory(fault)),
-        }
+        Ok(Core {
+            place: 0,
+            registers: [0; 8],
+            words: copied(heap, words)?,
+        })
     }
 
     // The word at the place, and 0 past the words.
+    #[tactic(auto, using(crate::proofs::Registers::word_is))]
     fn word(&self) -> u32
-        ensures { result ≡ word_at (core_state self.now.place self.now.registers self.now.words.items) }
+        ensures { result ≡ word_at (state_of self.now) }
     {
-        if self.place < self.words.len() {
-            self.words[self.place]
-        } else {
-            0
-        }
+        self.words.get(self.place).copied().unwrap_or(0)
     }
 
-    fn register(&self, i: usize) -> u32
-        requires { i < 8 }
-        ensures { result ≡ register_at (core_state self.now.place self.now.registers self.now.words.items) i }
+    #[tactic(auto, using(crate::proofs::Registers::register_is))]
+    fn register(&self, i: Register) -> u32
+        ensures { result ≡ register_at (state_of self.now) i }
     {
-        self.registers[i]
+        self.registers[i.number()]
     }
 
     // Moves on to the next word, with the number in register `d`.
-    fn put(&mut self, d: usize, number: u32)
-        requires { (d < 8) × (self.old.place + 1 < 2 ^ 64) }
-        ensures { core_state self.new.place self.new.registers self.new.words.items ≡ with_number d number (core_state self.old.place self.old.registers self.old.words.items) }
+    #[tactic(auto, using(crate::proofs::Registers::number_is))]
+    fn put(&mut self, d: Register, number: u32)
+        requires { self.old.place + 1 < 2 ^ 64 }
+        ensures { state_of self.new ≡ with_number d number (state_of self.old) }
     {
         self.place += 1;
-        self.registers[d] = number;
+        self.registers[d.number()] = number;
     }
 
-    fn address(&self, i: Instruction) -> u32
-        requires { i.s < 8 }
-        ensures { result ≡ address_by i (core_state self.now.place self.now.registers self.now.words.items) }
+    fn address(&self, i: &Instruction) -> u32
+        ensures { result ≡ address_by i.now (state_of self.now) }
     {
         self.register(i.s).wrapping_add(i.k)
     }
 
     // Does what the instruction asks; `value` is what a load gets.
     fn follow(&mut self, i: Instruction, value: u64)
-        requires { (i.d < 8) × ((i.s < 8) × (self.old.place + 1 < 2 ^ 64)) }
-        ensures { core_state self.new.place self.new.registers self.new.words.items ≡ next_by i.op i value (core_state self.old.place self.old.registers self.old.words.items) }
+        requires { self.old.place + 1 < 2 ^ 64 }
+        ensures { state_of self.new ≡ next_by i.op i value (state_of self.old) }
     {
         match i.op {
             Op::Constant => self.put(i.d, i.k),
-            Op::AddConstant => self.put(i.d, self.address(i)),
+            Op::AddConstant => self.put(i.d, self.address(&i)),
             Op::AddRegister => self.put(i.d, self.register(i.d).wrapping_add(self.register(i.s))),
-            Op::Load(size) => self.put(i.d, loaded_into(size, value)),
+            Op::Load(size) => self.put(i.d, size.low(value)),
             Op::Store(_) => self.place += 1,
             Op::Jump => self.place = if self.register(i.d) == 0 {
                 self.place + 1
@@ -100,24 +91,26 @@ impl Core {
 }
 
 impl Program for Core {
-    ghost state = { λ p. core_state p.place p.registers p.words.items };
+    ghost use Rattle.programs.specs.Core.{state_of, core_behaviour};
+
+    ghost state = { state_of };
 
     ghost behaviour = { core_behaviour };
 
-    ghost below = { λ p. (p.place64, all_below _ (below_append _ _ p.registers64 p.words64)) };
+    ghost below = { λ p. (p.place64, recursion_from_All _ _ (All-append (λ n. n < 2 ^ 64) _ _ p.registers64 p.words64)) };
 
     ghost lawful = { Prim.search rules };
 
     fn want(&self) -> Want {
-        let i = decoded(self.word());
+        let i = Instruction::from(self.word());
         match i.op {
             Op::Constant | Op::AddConstant | Op::AddRegister | Op::Jump => Want::Quiet,
             Op::Load(size) => Want::Load {
-                address: self.address(i),
+                address: self.address(&i),
                 size: size.bytes(),
             },
             Op::Store(size) => Want::Store {
-                address: self.address(i),
+                address: self.address(&i),
                 size: size.bytes(),
                 value: u64::from(size.low(u64::from(self.register(i.d)))),
             },
@@ -125,22 +118,11 @@ impl Program for Core {
         }
     }
 
+    #[tactic(auto, using(crate::proofs::Registers::past_stays))]
     fn go(&mut self, value: u64) {
         if self.place < self.words.len() {
-            let i = decoded(self.word());
+            let i = Instruction::from(self.word());
             self.follow(i, value);
         }
     }
 }
-
-// Does nothing at run time: it tells the caller's proof that each word is below 2^64.
-fn holds_words(words: &[u32])
-    ensures { Below64 words.now }
-{
-    let _ = words.first();
-}
-
-// Does nothing at run time: it tells the caller's proof what a core keeps as it runs.
-fn core_runs(words: &[u32])
-    ensures { CoreRuns words.now }
-{}

@@ -30,10 +30,8 @@ fn core_plays(
     value: u64,
     wants: &[Want],
 ) -> Result<(), Fail> {
-    match Core::new(heap, words) {
-        Ok(mut core) => plays(rt, &mut core, value, wants),
-        Err(_) => Err(Fail::new("refused")),
-    }
+    let mut core = Core::new(heap, words).map_err(|_| Fail::new("refused"))?;
+    plays(rt, &mut core, value, wants)
 }
 
 fn list_plays(
@@ -42,10 +40,8 @@ fn list_plays(
     accesses: &[ListedAccess],
     wants: &[Want],
 ) -> Result<(), Fail> {
-    match AccessList::new(heap, accesses) {
-        Ok(mut list) => plays(rt, &mut list, 9, wants),
-        Err(_) => Err(Fail::new("refused")),
-    }
+    let mut list = AccessList::new(heap, accesses).map_err(|_| Fail::new("refused"))?;
+    plays(rt, &mut list, 9, wants)
 }
 
 fn load(address: u32, size: u8) -> Want {
@@ -168,6 +164,6 @@ fn lengths(rt: HostRuntime) {
             Err(ProgramRefusal::TooLong)
         )
     );
-    assert!(rt; ProgramRefusal::TooLong.number() == Some(2));
-    assert!(rt; ProgramRefusal::NoMemory(AllocError).number().is_none());
+    assert!(rt; u8::try_from(ProgramRefusal::TooLong) == Ok(2));
+    assert!(rt; u8::try_from(ProgramRefusal::NoMemory(AllocError)).is_err());
 }

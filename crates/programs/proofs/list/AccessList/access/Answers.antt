@@ -1,15 +1,10 @@
-use Rattle.std.proofs.Common.{◌<◌, ◌≤◌, length, vec_items, arith}
-use Rattle.programs.proofs.Numbers.{access_within, access_past}
+use Rattle.std.proofs.Common.{◌≡◌, get_or, vec_items, ◌∙◌, arith}
+use Rattle.std.proofs.lemmas.Grind.{common_steps}
+use Rattle.programs.proofs.Numbers.{past, access_is}
 use Rattle.programs.proofs.list.AccessList.access.Goals as goal
 
-pub returns-then-self-len : goal.returns-then-self-len
-returns-then-self-len c =
+pub returns-clause-value : goal.returns-clause-value
+returns-clause-value c =
     let p = c.args.self.now in
-    let within : p.place < length (vec_items p.accesses) = omega arith in
-    record { inside = λ _. omega arith; value = access_within p.place p.last (vec_items p.accesses) _ within c.index.ensures }
-
-pub returns-else-self-len : goal.returns-else-self-len
-returns-else-self-len c =
-    let p = c.args.self.now in
-    let past : length (vec_items p.accesses) ≤ p.place = omega arith in
-    record { inside = λ h. omega arith; value = access_past p.place p.last (vec_items p.accesses) past }
+    let read : c.unwrap_or.result ≡ get_or (vec_items p.accesses) p.place past = grind (arith, common_steps) in
+    read ∙ access_is p.place p.last (vec_items p.accesses)

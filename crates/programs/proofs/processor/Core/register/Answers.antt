@@ -1,8 +1,0 @@
-use Rattle.std.proofs.Common.{vec_items, arith}
-use Rattle.programs.proofs.Registers.{register_is}
-use Rattle.programs.proofs.processor.Core.register.Goals as goal
-
-pub returns : goal.returns
-returns c =
-    let p = c.args.self.now in
-    register_is p.place p.registers (vec_items p.words) c.args.i (omega arith)
