@@ -49,5 +49,5 @@ impl Access {
 pub(crate) fn is_size(n: u32) -> bool
     ensures { result ≡ is_size n }
 {
-    n == 1 || n == 2 || n == 4 || n == 8
+    matches!(n, 1 | 2 | 4 | 8)
 }

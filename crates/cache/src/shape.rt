@@ -65,7 +65,5 @@ impl Shape {
 fn are_settings(k: Settings) -> bool
     ensures { result ≡ are_settings k }
 {
-    let sets = k.sets == 1 || k.sets == 2 || k.sets == 4 || k.sets == 8 || k.sets == 16;
-    let ways = k.ways == 1 || k.ways == 2 || k.ways == 4;
-    sets && ways && is_size(k.granule)
+    matches!(k.sets, 1 | 2 | 4 | 8 | 16) && matches!(k.ways, 1 | 2 | 4) && is_size(k.granule)
 }

@@ -94,10 +94,8 @@ impl Cache {
     pub(crate) fn line_of(&self, block: u32) -> Option<&Line>
         ensures { option_map (λ x. x.now) result ≡ first (holds block) (block_set block self.now) }
     {
-        match self.find(block) {
-            Some(found) => Some(self.table.line(found.slot)),
-            None => None,
-        }
+        let found = self.find(block)?;
+        Some(self.table.line(found.slot))
     }
 
     // The block's line turns stale in its place, if there is one.

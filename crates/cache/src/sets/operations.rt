@@ -40,10 +40,8 @@ impl Cache {
     pub fn known(&self, access: Access) -> bool
         ensures { result ≡ is_load_known (settings_of self.now) access.address access.size (sets_of self.now) }
     {
-        match self.line_of(access.block()) {
-            Some(line) => is_known(line, self.shape, access),
-            None => false,
-        }
+        self.line_of(access.block())
+            .is_some_and(|line| is_known(line, self.shape, access))
     }
 
     // The value of a load. The fill is what the line takes if its block is absent or stale.
