@@ -32,10 +32,7 @@ pub(crate) fn write(line: &mut Line, part: Stretch, value: u64)
 pub(crate) fn is_flagged(line: &Line, shape: Shape, part: Stretch) -> bool
     ensures { result ≡ all_flagged shape.settings.granule part.from part.size 0 line.now.flags }
 {
-    let granules = shape.granules(part);
-    let first = granules.first;
-    let end = granules.end;
-    for flag in &line.flags[first..end] {
+    for flag in &line.flags[shape.granules(part)] {
         if !*flag {
             return false;
         }
@@ -47,10 +44,7 @@ pub(crate) fn is_flagged(line: &Line, shape: Shape, part: Stretch) -> bool
 pub(crate) fn flag(line: &mut Line, shape: Shape, part: Stretch)
     ensures { line.new ≡ flagged_line shape.settings part.from part.size line.old }
 {
-    let granules = shape.granules(part);
-    let first = granules.first;
-    let end = granules.end;
-    line.flags[first..end].fill(true);
+    line.flags[shape.granules(part)].fill(true);
 }
 
 // Whether a load is known by the line of its block.
