@@ -11,21 +11,17 @@ use rules::cache::{BlockBytes, Line};
 pub(crate) fn read(line: &Line, part: Stretch) -> u64
     ensures { result ≡ number_of (stretch part.from part.size line.now.bytes) }
 {
-    let mut value: u64 = 0;
-    for i in (0..part.size).rev() {
-        value = value * 256 + u64::from(line.bytes[part.from + i]);
-    }
-    value
+    let mut bytes = [0; 8];
+    bytes[..part.size].copy_from_slice(&line.bytes[part.from..part.from + part.size]);
+    u64::from_le_bytes(bytes)
 }
 
 // Writes the low bytes of a value over a part of a line.
 pub(crate) fn write(line: &mut Line, part: Stretch, value: u64)
     ensures { line.new ≡ overwritten part.from (low_bytes part.size value) line.old }
 {
-    let from = part.from;
-    let size = part.size;
     let bytes = value.to_le_bytes();
-    line.bytes[from..from + size].copy_from_slice(&bytes[0..size]);
+    line.bytes[part.from..part.from + part.size].copy_from_slice(&bytes[..part.size]);
 }
 
 // Whether every granule that lies whole in a part of a line has its flag.

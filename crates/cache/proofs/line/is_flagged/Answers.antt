@@ -1,4 +1,4 @@
-use Rattle.std.proofs.Common.{◌≡◌, ◌<◌, sym, arith}
+use Rattle.std.proofs.Common.{sym, arith}
 use Rattle.cache.proofs.Granules.{all_granules, lacking_granule}
 use Rattle.cache.proofs.line.is_flagged.Goals as goal
 

@@ -12,8 +12,8 @@ returns c =
     let from = c.args.part.from in
     let size = c.args.part.size in
     let v = c.args.value in
-    let low : take (size - 0) c.to_le_bytes-bytes.result ≡ low_bytes size v =
-    ap₂ take (omega arith) (c.to_le_bytes-bytes.ensures ∙ eight_bytes v) ∙ take-low_bytes size 8 v c.args.part.few in
+    let low : take size c.to_le_bytes-bytes.result ≡ low_bytes size v =
+    ap (take size) (c.to_le_bytes-bytes.ensures ∙ eight_bytes v) ∙ take-low_bytes size 8 v c.args.part.few in
     let rest = drop-drop (from + size - from) from l.bytes ∙ ap (λ n. drop n l.bytes) (omega (arith, length-low_bytes size v)) in
     let bytes = ap₂ (λ (ys zs : List ℕ). take from l.bytes ++ (ys ++ zs)) (c.copy_from_slice.ensures.after ∙ low) rest in
     ap (λ bs. let m : Line = record { block = l.block; bytes = bs; flags = l.flags; stale = l.stale } in m) bytes

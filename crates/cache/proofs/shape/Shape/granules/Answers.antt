@@ -1,4 +1,3 @@
-use Rattle.std.proofs.Common.{refl}
 use Rattle.rules.proofs.Flags.{granule_size, size_some}
 use Rattle.cache.proofs.Granules.{granules_within}
 use Rattle.cache.proofs.shape.Shape.granules.Goals as goal
