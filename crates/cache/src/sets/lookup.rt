@@ -1,11 +1,10 @@
-ghost use Rattle.std.specs.Prelude.{◌≡◌, ◌%◌, ◌<◌, map, length, vec_len};
+ghost use Rattle.std.specs.Prelude.{◌≡◌, ◌%◌, ◌<◌, length, vec_len};
 ghost use Rattle.std.specs.Option.{option_map};
-ghost use Rattle.rules.specs.Cache.{first, holds, invalidated_in, on_set};
-ghost use Rattle.rules.specs.CacheLaws.{blocks_in};
+ghost use Rattle.rules.specs.Cache.{first, holds};
 ghost use Rattle.cache.specs.Lookup.{AbsentBelow, block_set, Lies, Finds, ComesForward, Promotes, Brings};
-ghost use Rattle.cache.specs.View.{settings_of, sets_of};
+ghost use Rattle.cache.specs.View.{settings_of};
 
-use crate::line::{bring_in, make_stale};
+use crate::line::bring_in;
 use crate::sets::Cache;
 use rules::cache::{BlockBytes, Line};
 
@@ -96,16 +95,5 @@ impl Cache {
     {
         let found = self.find(block)?;
         Some(self.table.line(found.slot))
-    }
-
-    // The block's line turns stale in its place, if there is one.
-    pub(crate) fn turn_stale(&mut self, block: u32)
-        ensures sets { sets_of self.new ≡ on_set (settings_of self.old) block (invalidated_in block) (sets_of self.old) }
-        ensures settings { settings_of self.new ≡ settings_of self.old }
-        ensures order { map blocks_in (sets_of self.new) ≡ map blocks_in (sets_of self.old) }
-    {
-        if let Some(found) = self.find(block) {
-            make_stale(self.table.line_mut(found.slot));
-        }
     }
 }
