@@ -50,19 +50,25 @@ pub(crate) fn is_known(line: &Line, shape: Shape, access: Access) -> bool
     !line.stale && is_flagged(line, shape, shape.region(access))
 }
 
-// A line as it comes forward: new for a block that was absent, filled anew where it was stale.
-pub(crate) fn bring_in(line: &mut Line, present: bool, block: u32, fill: &BlockBytes)
-    ensures { line.new ≡ (if present then refreshed fill.now line.old else new_line fill.now block) }
+// A line that is new for a block.
+pub(crate) fn new_line(block: u32, fill: &BlockBytes) -> Line
+    ensures { result ≡ new_line fill.now block }
 {
-    if present && !line.stale {
-        return;
-    }
-    *line = Line {
-        block: if present { line.block } else { block },
+    Line {
+        block,
         bytes: *fill,
         flags: [false; 16],
         stale: false,
-    };
+    }
+}
+
+// A stale line takes the fill, and loses its flags and mark.
+pub(crate) fn refresh(line: &mut Line, fill: &BlockBytes)
+    ensures { line.new ≡ refreshed fill.now line.old }
+{
+    if line.stale {
+        *line = new_line(line.block, fill);
+    }
 }
 
 // What a load does to the line that has come forward, and the value that it reads.

@@ -1,10 +1,10 @@
 ghost use Rattle.std.specs.Prelude.{◌≡◌, ◌%◌, ◌<◌, length, vec_len};
 ghost use Rattle.std.specs.Option.{option_map};
 ghost use Rattle.rules.specs.Cache.{first, holds};
-ghost use Rattle.cache.specs.Lookup.{AbsentBelow, block_set, Lies, Finds, ComesForward, Promotes, Brings};
+ghost use Rattle.cache.specs.Lookup.{AbsentBelow, block_set, Lies, Finds, ComesForward, Brings};
 ghost use Rattle.cache.specs.View.{settings_of};
 
-use crate::line::bring_in;
+use crate::line::{new_line, refresh};
 use crate::sets::Cache;
 use rules::cache::{BlockBytes, Line};
 
@@ -13,13 +13,6 @@ use rules::cache::{BlockBytes, Line};
 pub(crate) struct Found {
     pub(crate) place: usize,
     pub(crate) slot: usize,
-}
-
-// The slot of a block that has come forward, and whether its line lies there already.
-#[derive(Clone, Copy)]
-pub(crate) struct Front {
-    pub(crate) slot: usize,
-    pub(crate) present: bool,
 }
 
 impl Cache {
@@ -63,31 +56,22 @@ impl Cache {
         4 * set + self.orders[set].enter(ways)
     }
 
-    pub(crate) fn promote(&mut self, block: u32) -> Front
-        ensures { Promotes block self.old self.new result }
-    {
-        match self.find(block) {
-            Some(found) => {
-                self.touch(block, found);
-                Front {
-                    slot: found.slot,
-                    present: true,
-                }
-            }
-            None => Front {
-                slot: self.enter(block),
-                present: false,
-            },
-        }
-    }
-
     // The block's line comes forward, filled if it has to be. The answer is its slot.
     pub(crate) fn bring_forward(&mut self, block: u32, fill: &BlockBytes) -> usize
         ensures { Brings block fill.now self.old self.new result }
     {
-        let front = self.promote(block);
-        bring_in(self.table.line_mut(front.slot), front.present, block, fill);
-        front.slot
+        match self.find(block) {
+            Some(found) => {
+                self.touch(block, found);
+                refresh(self.table.line_mut(found.slot), fill);
+                found.slot
+            }
+            None => {
+                let slot = self.enter(block);
+                *self.table.line_mut(slot) = new_line(block, fill);
+                slot
+            }
+        }
     }
 
     pub(crate) fn line_of(&self, block: u32) -> Option<&Line>

@@ -4,29 +4,23 @@ ghost use Rattle.rules.specs.CacheLaws.{blocks_in, CacheLaws};
 ghost use Rattle.cache.specs.View.{settings_of, sets_of, IsEmpty, Does};
 
 use crate::access::Access;
-use crate::line::{is_known, make_stale, take_load, take_store};
+use crate::line::{is_known, make_stale, new_line, take_load, take_store};
 use crate::recency::Recency;
 use crate::sets::Cache;
 use crate::shape::Shape;
 use crate::table::Table;
-use rules::cache::{BlockBytes, Line};
+use rules::cache::BlockBytes;
 use std::alloc::{AllocError, Global};
-
-const BLANK: Line = Line {
-    block: 0,
-    bytes: [0; 16],
-    flags: [false; 16],
-    stale: false,
-};
 
 impl Cache {
     // An empty cache. The laws speak of any operations on it; each call below is one.
+    #[tactic(auto, using(rules::proofs::CacheLaws::cache_laws))]
     pub fn new(heap: Global, shape: Shape) -> Result<Cache, AllocError>
         ensures empty { IfOk result (IsEmpty shape.settings) }
         ensures laws { CacheLaws shape.settings }
     {
         let sets = shape.settings().sets as usize;
-        let lines = vec![in heap; BLANK; 4 * sets]?;
+        let lines = vec![in heap; new_line(0, &[0; 16]); 4 * sets]?;
         let orders = vec![in heap; Recency::new(); sets]?;
         Ok(Cache {
             shape,
