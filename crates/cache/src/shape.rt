@@ -33,7 +33,8 @@ impl Shape {
 
     // The aligned stretch of max(size, granule) bytes that holds an access.
     pub(crate) fn region(self, access: Access) -> Stretch
-        ensures { ◌≡◌ {A = ℕ × ℕ} (result.from, result.size) (region_from self.settings access.address access.size, region_size self.settings access.size) }
+        ensures from { result.from ≡ region_from self.settings access.address access.size }
+        ensures size { result.size ≡ region_size self.settings access.size }
     {
         let size = self.region_size(access);
         let offset = access.stretch().from;
