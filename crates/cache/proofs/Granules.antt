@@ -1,9 +1,11 @@
 -- Flags of the granules from `start` on, below `end`: those that lie whole in a stretch.
-use Rattle.std.proofs.Common.{◌≡◌, ℕ, suc, ◌+◌, ◌-◌, ◌*◌, ◌/◌, ◌%◌, ◌<◌, ◌≤◌, max, min, Bool, true, false, ◌&&◌, ◌||◌, ltb, leb, List, ◌++◌, length, get_or, take, drop, replicate, sym, ap, ◌∙◌, inl, inr, zero-add, arith, length-drop, length-take, get_or-drop, get_or-take}
+use Rattle.std.proofs.Common.{◌≡◌, ℕ, suc, ◌+◌, ◌-◌, ◌*◌, ◌/◌, ◌%◌, ◌<◌, ◌≤◌, max, min, Bool, true, false, ◌&&◌, ◌||◌, ltb, leb, List, ◌++◌, length, get_or, take, drop, replicate, sym, ap, ap₂, ◌∙◌, inl, inr, zero-add, arith, length-drop, length-take, get_or-drop, get_or-take}
 use native.Mathlib.Nat.{div-lt_iff_lt-mul}
+use Rattle.std.proofs.lemmas.List.{length-replicate}
 use Rattle.std.proofs.lemmas.Bool.{and_parts, and_from, leb-true, ltb-true, le-leb, lt-ltb, cases_Bool, cases_lt, both_ways}
 use Rattle.std.proofs.lemmas.Bool.Decides.{nat_tests}
 use Rattle.std.proofs.lemmas.Grind.{div_ceil_times}
+use Rattle.rules.specs.Overlay.{overlay}
 use Rattle.rules.specs.Cache.{within, flagged, all_flagged}
 use Rattle.rules.proofs.Flags.{length-flagged, get_or-flagged, all_flagged_tells, set-between, within_span}
 
@@ -36,11 +38,11 @@ module _ (g from size start end : ℕ) (spans : (q : ℕ) → within g from size
   get_or-own : (i : ℕ) → i < end - start → get_or own i false ≡ get_or fs (start + i) false
   get_or-own i h = get_or-take (end - start) (drop start fs) i false h ∙ get_or-drop start fs i false
 
-  pub flagged_granules : start ≤ end → flagged g from size 0 fs ≡ take start fs ++ (replicate (length own) true ++ drop end fs)
+  pub flagged_granules : start ≤ end → flagged g from size 0 fs ≡ overlay start (replicate (length own) true) fs
   flagged_granules order =
       set-between start end fs (flagged g from size 0 fs) order fits (length-flagged g from size 0 fs)
       (λ i h. get_or-flagged g from size 0 fs i h ∙ ap (λ w. get_or fs i false || w) (ap (within g from size) (zero-add i) ∙ spans i))
-      ∙ ap (λ n. take start fs ++ (replicate n true ++ drop end fs)) (sym length-own)
+      ∙ ap₂ (λ n m. take start fs ++ (replicate n true ++ drop m fs)) (sym length-own) (omega (arith, length-own, length-replicate (length own) true))
 
   pub all_granules : ((i : ℕ) → i < length own → get_or own i false ≡ true) → all_flagged g from size 0 fs ≡ true
   all_granules each = (all_flagged_tells g from size fs).1 (λ i h w.
