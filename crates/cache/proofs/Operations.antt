@@ -11,7 +11,7 @@ use Rattle.cache.specs.Recency.{recent}
 use Rattle.cache.specs.View.{settings_of, blank, table_of, lines_of, sets_from, sets_of}
 use Rattle.cache.specs.declared.recency.Recency.{Recency}
 use Rattle.cache.specs.declared.sets.Cache.{Cache}
-use Rattle.cache.proofs.Lookup.{ways_are, set_is, set_long, roomy}
+use Rattle.cache.proofs.Lookup.{IsSetOf, ways_are, set_is, set_long, roomy}
 use Rattle.cache.proofs.View.{length-sets_from, set_line}
 
 -- sets that use no way are empty
@@ -49,12 +49,13 @@ placed_sets block c place slot w at =
     let inside = set_inside block c in
     let some = some_order (vec_items c.orders) s (omega (arith, inside, c.orders.ok.0)) in
     let r = some.0 in
-    let ways = ways_are c block s r refl inside some.1 in
-    let ls = set_is c block s r refl inside some.1 in
+    let home : IsSetOf block c s r = record { is = refl; inside = inside; order = some.1 } in
+    let ways = ways_are home in
+    let ls = set_is home in
     let none : 0 + s ≡ s = zero-add s in
     let slot_is : slot ≡ 4 * (0 + s) + get_or (recent r) place 0 = at.way ∙ ap₂ (λ (a b : ℕ). 4 * a + b) (sym none) (ap (λ (xs : List ℕ). get_or xs place 0) ways) in
     ap (λ n. sets_from (set (table_of c) n w) 0 (vec_items c.orders)) slot_is
-    ∙ set_line (table_of c) 0 (vec_items c.orders) s r place w (omega (arith, inside, c.orders.ok.0)) some.1 (omega (arith, at.inside, set_long c block s r refl inside some.1)) (omega (arith, roomy c block s r refl inside some.1))
+    ∙ set_line (table_of c) 0 (vec_items c.orders) s r place w (omega (arith, inside, c.orders.ok.0)) some.1 (omega (arith, at.inside, set_long home)) (omega (arith, roomy home))
     ∙ ap (λ xs. set (sets_of c) s (set xs place w)) (ap (λ n. lines_of (table_of c) n r) none ∙ sym ls)
 
 pub stale_sets : (block : ℕ) (c : Cache) (place slot : ℕ) (l w : Line) → Lies block c place slot → l ≡ get_or (table_of c) slot l → w ≡ staled l

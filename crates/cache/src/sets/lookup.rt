@@ -28,6 +28,7 @@ impl Cache {
     {
         let set = self.set_of(block);
         let order = self.orders[set];
+        // A `for` is plainer: each closure of a `find` would need a contract of its own.
         for place in 0..order.used() {
             let slot = 4 * set + order.way(place);
             if self.table.line(slot).block == block {
