@@ -1,6 +1,7 @@
 -- A block is found in its set, and comes forward.
-use Rattle.std.proofs.Common.{◌≡◌, ℕ, suc, ◌+◌, ◌-◌, ◌*◌, ◌%◌, ◌<◌, ◌≤◌, false, List, [], ◌∷◌, ◌++◌, map, length, get_or, take, drop, set, vec_items, vec_len, sym, ap, ◌∙◌, subst, ap₂, inl, inr, zero-add, arith, length-append, length-drop, length-take, get_or-set_other, get_or-set_same}
+use Rattle.std.proofs.Common.{◌≡◌, ℕ, suc, ◌+◌, ◌-◌, ◌*◌, ◌%◌, ◌<◌, ◌≤◌, false, List, [], ◌∷◌, ◌++◌, map, length, get_or, take, drop, set, vec_items, vec_len, sym, ap, ◌∙◌, subst, ap₂, inl, inr, zero-add, arith, get_or-set_other, get_or-set_same}
 use Rattle.std.specs.List.{remove}
+use Rattle.std.proofs.lemmas.List.Edits.{length-remove}
 use Rattle.std.proofs.lemmas.List.{length-set, length-map, set-set, get_or-map, map-set, map-append, take-map, drop-map, take_all}
 use Rattle.std.proofs.lemmas.Bool.{cases_eq, eq-eqb}
 use Rattle.rules.specs.Cache.{holds, less, behind, on_set}
@@ -102,7 +103,7 @@ module _ {block : ℕ} {c : Cache} {s : ℕ} {r : Recency} (home : IsSetOf block
       map-append f (take p (recent r)) (drop (suc p) (recent r)) ∙ ap₂ ◌++◌ (sym (take-map f p (recent r))) (sym (drop-map f (suc p) (recent r)))
       ∙ ap (λ xs. take p xs ++ drop (suc p) xs) (sym set_is) ∙ sym (less_at (holds block) ls p blank at.inside at.holding at.before) in
       let short : length (less (holds block) ls) ≤ (settings_of c).ways - 1 =
-      omega (arith, ap length (sym moved), length-map (remove (recent r) p) f, length-append (take p (recent r)) (drop (suc p) (recent r)), length-take p (recent r), length-drop (suc p) (recent r)) in
+      omega (arith, ap length (sym moved), length-map (remove (recent r) p) f, length-remove (recent r) p h) in
       ap (λ n. sets_from (set (table_of c) n l) 0 (set (vec_items c.orders) s r')) slot_is
       ∙ comes r' (get_or (recent r) p 0) (remove (recent r) p) l e (moved ∙ sym (take_all ((settings_of c).ways - 1) (less (holds block) ls) short))
 
