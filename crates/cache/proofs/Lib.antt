@@ -1,5 +1,6 @@
 pub mod Granules
 pub mod Order
+pub mod Parts
 pub mod Words
 pub mod View
 pub mod Lookup

@@ -1,6 +1,7 @@
 -- A block is found in its set, and comes forward.
-use Rattle.std.proofs.Common.{◌≡◌, ℕ, suc, ◌+◌, ◌-◌, ◌*◌, ◌%◌, ◌<◌, ◌≤◌, false, List, [], ◌∷◌, ◌++◌, map, length, get_or, take, drop, set, vec_items, vec_len, sym, ap, ◌∙◌, subst, ap₂, inl, inr, zero-add, arith, length-append, length-drop, length-take, get_or-set_other, get_or-set_same}
+use Rattle.std.proofs.Common.{◌≡◌, ℕ, suc, ◌+◌, ◌-◌, ◌*◌, ◌%◌, ◌<◌, ◌≤◌, false, List, [], ◌∷◌, ◌++◌, map, length, get_or, take, drop, set, vec_items, vec_len, sym, ap, ◌∙◌, subst, ap₂, inl, inr, zero-add, arith, get_or-set_other, get_or-set_same}
 use Rattle.std.specs.List.{remove}
+use Rattle.std.proofs.lemmas.List.Edits.{length-remove}
 use Rattle.std.proofs.lemmas.List.{length-set, length-map, set-set, get_or-map, map-set, map-append, take-map, drop-map, take_all}
 use Rattle.std.proofs.lemmas.Bool.{cases_eq, eq-eqb}
 use Rattle.rules.specs.Cache.{holds, less, behind, on_set}
@@ -26,36 +27,42 @@ forward_sets lines rs s r w ws l is inside fits =
     ∙ ap₂ (λ (cache : List (List Line)) (ls : List Line). set cache s ls) (set_order lines 0 rs s r) (ap₂ (λ (n : ℕ) (xs : List ℕ). set (map (line_in lines n) xs) 0 l) none is)
     ∙ set-set (sets_from lines 0 rs) s (lines_of lines (0 + s) r) (l ∷ map (line_in lines s) ws)
 
--- a set keeps at most so many ways in use
-pub few_kept : (rs : List Recency) (s n : ℕ) (r : Recency) → s < length rs → length (recent r) ≤ n → ((t : ℕ) → length (get_or (map recent rs) t []) ≤ n)
-    → (t : ℕ) → length (get_or (map recent (set rs s r)) t []) ≤ n
-few_kept rs s n r inside fits few t =
-    let changed = map-set recent rs s r in
-    elim (cases_eq t s) [
-      | inl e ↦ subst (λ xs. length xs ≤ n) (sym (ap₂ (λ (ls : List (List ℕ)) (i : ℕ). get_or ls i []) changed e ∙ get_or-set_same (map recent rs) s (recent r) [] (omega (arith, length-map rs recent)))) fits
-      | inr ne ↦ subst (λ xs. length xs ≤ n) (sym (ap (λ (ls : List (List ℕ)). get_or ls t []) changed ∙ get_or-set_other (map recent rs) s t (recent r) [] ne)) (few t)
-    ]
+-- s is the set of a block, and r its order of use
+pub record IsSetOf (block : ℕ) (c : Cache) (s : ℕ) (r : Recency) : Type 0 where
+  pub is : s ≡ block % (settings_of c).sets
+  pub inside : s < vec_len c.orders
+  pub order : r ≡ get_or (vec_items c.orders) s r
 
--- the set s of a block and its order of use r
-module _ (c : Cache) (block s : ℕ) (r : Recency) (is : s ≡ block % (settings_of c).sets) (inside : s < vec_len c.orders) (order : r ≡ get_or (vec_items c.orders) s r) where
-  within : s < length (vec_items c.orders)
-  within = omega (arith, c.orders.ok.0)
+module _ {block : ℕ} {c : Cache} {s : ℕ} {r : Recency} (home : IsSetOf block c s r) where
+  pub within : s < length (vec_items c.orders)
+  within = omega (arith, home.inside, c.orders.ok.0)
 
   pub roomy : 4 * length (vec_items c.orders) ≤ length (table_of c)
   roomy = omega (arith, c.orders.ok.0, c.table.lines.ok.0, c.room)
 
   pub set_is : block_set block c ≡ lines_of (table_of c) s r
   set_is =
-      ap (λ n. get_or (sets_of c) n []) (sym is) ∙ get_or-sets_from (table_of c) 0 (vec_items c.orders) s r within order ∙ ap (λ n. lines_of (table_of c) n r) (zero-add s)
+      ap (λ n. get_or (sets_of c) n []) (sym home.is) ∙ get_or-sets_from (table_of c) 0 (vec_items c.orders) s r within home.order ∙ ap (λ n. lines_of (table_of c) n r) (zero-add s)
 
   pub ways_are : ways_of block c ≡ recent r
-  ways_are = ap (λ n. get_or (map recent (vec_items c.orders)) n []) (sym is) ∙ get_or-map recent (vec_items c.orders) s r [] within ∙ ap recent (sym order)
+  ways_are = ap (λ n. get_or (map recent (vec_items c.orders)) n []) (sym home.is) ∙ get_or-map recent (vec_items c.orders) s r [] within ∙ ap recent (sym home.order)
 
   pub set_long : length (block_set block c) ≡ length (recent r)
   set_long = ap length set_is ∙ length-lines_of (table_of c) s r
 
   pub few_used : length (recent r) ≤ (settings_of c).ways
   few_used = subst (λ xs. length xs ≤ (settings_of c).ways) ways_are (c.few (block % (settings_of c).sets))
+
+  -- no set has more ways in use than the cache allows
+  pub few_kept : (r' : Recency) → length (recent r') ≤ (settings_of c).ways → (t : ℕ) → length (get_or (map recent (set (vec_items c.orders) s r')) t []) ≤ (settings_of c).ways
+  few_kept r' fits t =
+      let rs = vec_items c.orders in
+      let n = (settings_of c).ways in
+      let changed = map-set recent rs s r' in
+      elim (cases_eq t s) [
+        | inl e ↦ subst (λ xs. length xs ≤ n) (sym (ap₂ (λ (ls : List (List ℕ)) (i : ℕ). get_or ls i []) changed e ∙ get_or-set_same (map recent rs) s (recent r') [] (omega (arith, within, length-map rs recent)))) fits
+        | inr ne ↦ subst (λ xs. length xs ≤ n) (sym (ap (λ (ls : List (List ℕ)). get_or ls t []) changed ∙ get_or-set_other (map recent rs) s t (recent r') [] ne)) (c.few t)
+      ]
 
   pub line_at : (p : ℕ) → p < length (recent r) → get_or (block_set block c) p blank ≡ line_in (table_of c) s (get_or (recent r) p 0)
   line_at p h = ap (λ ls. get_or ls p blank) set_is ∙ get_or-lines_of (table_of c) s r p blank h
@@ -67,7 +74,7 @@ module _ (c : Cache) (block s : ℕ) (r : Recency) (is : s ≡ block % (settings
       → ((i : ℕ) → i < p → holds block (line_in (table_of c) s (get_or (recent r) i 0)) ≡ false) → Lies block c p (4 * s + get_or (recent r) p 0)
   lies p h same none = record {
     inside = omega (arith, set_long);
-    way = ap₂ (λ (a b : ℕ). 4 * a + b) is (ap (λ (xs : List ℕ). get_or xs p 0) (sym ways_are));
+    way = ap₂ (λ (a b : ℕ). 4 * a + b) home.is (ap (λ (xs : List ℕ). get_or xs p 0) (sym ways_are));
     slotted = slot_below p h;
     line = line_at p h;
     holding = ap (holds block) (line_at p h) ∙ eq-eqb _ block same;
@@ -82,7 +89,7 @@ module _ (c : Cache) (block s : ℕ) (r : Recency) (is : s ≡ block % (settings
       → sets_from (set (table_of c) (4 * s + w) l) 0 (set (vec_items c.orders) s r') ≡ on_set (settings_of c) block (λ ls. l ∷ behind (settings_of c).ways block ls) (sets_of c)
   comes r' w ws l e same =
       forward_sets (table_of c) (vec_items c.orders) s r' w ws l e within roomy
-      ∙ ap₂ (λ (n : ℕ) (ls : List Line). set (sets_of c) n (l ∷ ls)) is same
+      ∙ ap₂ (λ (n : ℕ) (ls : List Line). set (sets_of c) n (l ∷ ls)) home.is same
 
   pub touched : (p slot : ℕ) → Lies block c p slot → (r' : Recency) → recent r' ≡ to_front p (recent r) → (l : Line)
       → sets_from (set (table_of c) slot l) 0 (set (vec_items c.orders) s r') ≡ on_set (settings_of c) block (λ ls. l ∷ behind (settings_of c).ways block ls) (sets_of c)
@@ -91,12 +98,12 @@ module _ (c : Cache) (block s : ℕ) (r : Recency) (is : s ≡ block % (settings
       let ls = block_set block c in
       let few = few_used in
       let h : p < length (recent r) = omega (arith, set_long, at.inside) in
-      let slot_is : slot ≡ 4 * s + get_or (recent r) p 0 = at.way ∙ ap₂ (λ (a b : ℕ). 4 * a + b) (sym is) (ap (λ (xs : List ℕ). get_or xs p 0) ways_are) in
+      let slot_is : slot ≡ 4 * s + get_or (recent r) p 0 = at.way ∙ ap₂ (λ (a b : ℕ). 4 * a + b) (sym home.is) (ap (λ (xs : List ℕ). get_or xs p 0) ways_are) in
       let moved : map f (remove (recent r) p) ≡ less (holds block) ls =
       map-append f (take p (recent r)) (drop (suc p) (recent r)) ∙ ap₂ ◌++◌ (sym (take-map f p (recent r))) (sym (drop-map f (suc p) (recent r)))
       ∙ ap (λ xs. take p xs ++ drop (suc p) xs) (sym set_is) ∙ sym (less_at (holds block) ls p blank at.inside at.holding at.before) in
       let short : length (less (holds block) ls) ≤ (settings_of c).ways - 1 =
-      omega (arith, ap length (sym moved), length-map (remove (recent r) p) f, length-append (take p (recent r)) (drop (suc p) (recent r)), length-take p (recent r), length-drop (suc p) (recent r)) in
+      omega (arith, ap length (sym moved), length-map (remove (recent r) p) f, length-remove (recent r) p h) in
       ap (λ n. sets_from (set (table_of c) n l) 0 (set (vec_items c.orders) s r')) slot_is
       ∙ comes r' (get_or (recent r) p 0) (remove (recent r) p) l e (moved ∙ sym (take_all ((settings_of c).ways - 1) (less (holds block) ls) short))
 

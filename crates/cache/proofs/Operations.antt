@@ -1,18 +1,17 @@
 -- What the operations do to the sets of a cache, from what they do to its table and orders of use.
-use Rattle.std.proofs.Common.{◌≡◌, ℕ, zero, suc, ◌+◌, ◌*◌, ◌%◌, ◌<◌, Bool, true, false, cond, List, [], ◌∷◌, map, length, get_or, set, replicate, Some, None, vec_items, vec_len, sym, refl, ap, ◌∙◌, ap₂, zero-add, arith}
+use Rattle.std.proofs.Common.{◌≡◌, ℕ, zero, suc, ◌+◌, ◌*◌, ◌%◌, ◌<◌, List, [], ◌∷◌, map, length, get_or, set, replicate, Some, vec_items, vec_len, sym, refl, ap, ◌∙◌, ap₂, zero-add, arith}
 use Rattle.std.proofs.lemmas.Nat.{mod_below}
-use Rattle.std.proofs.lemmas.List.{get_or_read, set-get_or, set-set}
-use Rattle.rules.specs.Cache.{new_line, refreshed, staled, first, holds, forward, behind, invalidated_in, on_set}
+use Rattle.std.proofs.lemmas.List.{get_or_read, get_or-set_same, length-set, set-get_or, set-set}
+use Rattle.rules.specs.Cache.{staled, first, holds, forward, invalidated_in, on_set}
 use Rattle.rules.specs.declared.cache.Line.{Line}
 use Rattle.rules.proofs.Sets.{first_at, invalidated_at, invalidated_none}
 use Rattle.rules.proofs.Flags.{sets_bounds}
-use Rattle.cache.specs.Lookup.{block_set, AbsentBelow, Lies, Promotes}
+use Rattle.cache.specs.Lookup.{block_set, AbsentBelow, Lies, ComesForward, Brings}
 use Rattle.cache.specs.Recency.{recent}
 use Rattle.cache.specs.View.{settings_of, blank, table_of, lines_of, sets_from, sets_of}
 use Rattle.cache.specs.declared.recency.Recency.{Recency}
 use Rattle.cache.specs.declared.sets.Cache.{Cache}
-use Rattle.cache.specs.declared.sets.lookup.Front.{Front}
-use Rattle.cache.proofs.Lookup.{ways_are, set_is, set_long, roomy}
+use Rattle.cache.proofs.Lookup.{IsSetOf, ways_are, set_is, set_long, roomy}
 use Rattle.cache.proofs.View.{length-sets_from, set_line}
 
 -- sets that use no way are empty
@@ -50,12 +49,13 @@ placed_sets block c place slot w at =
     let inside = set_inside block c in
     let some = some_order (vec_items c.orders) s (omega (arith, inside, c.orders.ok.0)) in
     let r = some.0 in
-    let ways = ways_are c block s r refl inside some.1 in
-    let ls = set_is c block s r refl inside some.1 in
+    let home : IsSetOf block c s r = record { is = refl; inside = inside; order = some.1 } in
+    let ways = ways_are home in
+    let ls = set_is home in
     let none : 0 + s ≡ s = zero-add s in
     let slot_is : slot ≡ 4 * (0 + s) + get_or (recent r) place 0 = at.way ∙ ap₂ (λ (a b : ℕ). 4 * a + b) (sym none) (ap (λ (xs : List ℕ). get_or xs place 0) ways) in
     ap (λ n. sets_from (set (table_of c) n w) 0 (vec_items c.orders)) slot_is
-    ∙ set_line (table_of c) 0 (vec_items c.orders) s r place w (omega (arith, inside, c.orders.ok.0)) some.1 (omega (arith, at.inside, set_long c block s r refl inside some.1)) (omega (arith, roomy c block s r refl inside some.1))
+    ∙ set_line (table_of c) 0 (vec_items c.orders) s r place w (omega (arith, inside, c.orders.ok.0)) some.1 (omega (arith, at.inside, set_long home)) (omega (arith, roomy home))
     ∙ ap (λ xs. set (sets_of c) s (set xs place w)) (ap (λ n. lines_of (table_of c) n r) none ∙ sym ls)
 
 pub stale_sets : (block : ℕ) (c : Cache) (place slot : ℕ) (l w : Line) → Lies block c place slot → l ≡ get_or (table_of c) slot l → w ≡ staled l
@@ -70,29 +70,16 @@ absent_sets block c none =
     let s = block % (settings_of c).sets in
     sym (ap (set (sets_of c) s) (invalidated_none block (block_set block c) blank none) ∙ set-get_or (sets_of c) s [])
 
--- the slot that has come forward
-module _ (block : ℕ) (before after : Cache) (f : Front) (up : Promotes block before after f) where
-  table_same : table_of after ≡ table_of before
-  table_same = ap (λ t. vec_items t.lines) up.comes.table
-
-  pub settings_same : settings_of after ≡ settings_of before
-  settings_same = ap (λ s. s.settings) up.comes.shape
-
-  pub slot_inside : f.slot < vec_len after.table.lines
-  slot_inside = omega (arith, up.comes.slotted, ap length table_same, after.table.lines.ok.0)
-
-  -- its line, once filled
-  pub brought : (fill : List ℕ) (l : Line) → l ≡ get_or (table_of after) f.slot l → cond f.present (refreshed fill l) (new_line fill block) ≡ forward fill block (first (holds block) (block_set block before))
-  brought fill l is =
-      let same : l ≡ get_or (table_of before) f.slot blank =
-      get_or_read (table_of after) f.slot l (omega (arith, slot_inside, after.table.lines.ok.0)) is blank ∙ ap (λ t. get_or t f.slot blank) table_same in
-      ap (λ m. cond f.present (refreshed fill m) (new_line fill block)) same ∙ sym (go f.present (get_or (table_of before) f.slot blank)) ∙ ap (forward fill block) (sym up.line)
-    where
-      go : (b : Bool) (m : Line) → forward fill block (cond b (Some m) None) ≡ cond b (refreshed fill m) (new_line fill block)
-      go true m = refl
-      go false m = refl
-
-  -- the sets with the line l there, whatever line w was put there before
-  pub front_sets : (w l : Line) → sets_from (set (set (table_of after) f.slot w) f.slot l) 0 (vec_items after.orders) ≡ on_set (settings_of before) block (λ ls. l ∷ behind (settings_of before).ways block ls) (sets_of before)
-  front_sets w l =
-      ap (λ t. sets_from t 0 (vec_items after.orders)) (set-set (table_of after) f.slot w l ∙ ap (λ t. set t f.slot l) table_same) ∙ up.comes.sets l
+-- a block has come forward, and its slot gets the line w
+pub brings : (block : ℕ) (fill : List ℕ) (before after end : Cache) (slot : ℕ) (w : Line) → ComesForward block before after slot
+    → settings_of end ≡ settings_of after → table_of end ≡ set (table_of after) slot w → vec_items end.orders ≡ vec_items after.orders
+    → w ≡ forward fill block (first (holds block) (block_set block before)) → Brings block fill before end slot
+brings block fill before after end slot w comes settings table orders came =
+    let same : table_of after ≡ table_of before = ap (λ t. vec_items t.lines) comes.table in
+    let held : slot < length (table_of after) = omega (arith, comes.slotted, ap length same) in
+    record {
+      settings = settings ∙ ap (λ s. s.settings) comes.shape;
+      slotted = omega (arith, held, ap length table, length-set (table_of after) slot w, end.table.lines.ok.0);
+      line = λ l is. is ∙ ap (λ t. get_or t slot l) table ∙ get_or-set_same (table_of after) slot w l held ∙ came;
+      sets = λ l. ap₂ (λ t rs. sets_from t 0 rs) (ap (λ t. set t slot l) table ∙ set-set (table_of after) slot w l ∙ ap (λ t. set t slot l) same) orders ∙ comes.sets l;
+    }

@@ -13,33 +13,8 @@ module _ (r : Recency) where
   place_is : (i : ℕ) → i < length (recent r) → get_or (recent r) i 0 ≡ get_or r.order i 0
   place_is i h = get_or-take r.used r.order i 0 (omega (arith, length-recent r))
 
-  below : (i : ℕ) → i < 4 → get_or r.order i 0 < 4
-  below zero h = r.ways.0
-  below (suc zero) h = r.ways.1
-  below (suc (suc zero)) h = r.ways.2
-  below (suc (suc (suc zero))) h = r.ways.3
-  below (suc (suc (suc (suc i)))) h = absurd (omega arith)
-
-  apart : (i j : ℕ) → i < j → j < 4 → get_or r.order i 0 ≡ get_or r.order j 0 → ⊥
-  apart zero zero h l = absurd (omega arith)
-  apart zero (suc zero) h l = r.first.0
-  apart zero (suc (suc zero)) h l = r.first.1
-  apart zero (suc (suc (suc zero))) h l = r.first.2
-  apart zero (suc (suc (suc (suc j)))) h l = absurd (omega arith)
-  apart (suc zero) zero h l = absurd (omega arith)
-  apart (suc zero) (suc zero) h l = absurd (omega arith)
-  apart (suc zero) (suc (suc zero)) h l = r.later.0
-  apart (suc zero) (suc (suc (suc zero))) h l = r.later.1
-  apart (suc zero) (suc (suc (suc (suc j)))) h l = absurd (omega arith)
-  apart (suc (suc zero)) zero h l = absurd (omega arith)
-  apart (suc (suc zero)) (suc zero) h l = absurd (omega arith)
-  apart (suc (suc zero)) (suc (suc zero)) h l = absurd (omega arith)
-  apart (suc (suc zero)) (suc (suc (suc zero))) h l = r.later.2
-  apart (suc (suc zero)) (suc (suc (suc (suc j)))) h l = absurd (omega arith)
-  apart (suc (suc (suc i))) j h l = absurd (omega arith)
-
   pub way_below : (i : ℕ) → i < length (recent r) → get_or (recent r) i 0 < 4
-  way_below i h = omega (arith, place_is i h, below i (omega (arith, length-recent r, r.few)))
+  way_below i h = omega (arith, place_is i h, r.ways i 0 (omega (arith, length-recent r, r.few, r.four)))
 
   -- no way stands at two places
   pub ways_apart : (i j : ℕ) → i < length (recent r) → j < length (recent r) → (i ≡ j → ⊥) → get_or (recent r) i 0 ≡ get_or (recent r) j 0 → ⊥
@@ -47,8 +22,8 @@ module _ (r : Recency) where
       let four = length-recent r in
       let same : get_or r.order i 0 ≡ get_or r.order j 0 = sym (place_is i h) ∙ e ∙ place_is j l in
       elim (cases_lt i j) [
-        | inl less ↦ apart i j less (omega (arith, r.few)) same
-        | inr more ↦ apart j i (omega arith) (omega (arith, r.few)) (sym same)
+        | inl less ↦ r.apart i j 0 less (omega (arith, r.few, r.four)) same
+        | inr more ↦ r.apart j i 0 (omega arith) (omega (arith, r.few, r.four)) (sym same)
       ]
 
 pub get_or-lines_of : (lines : List Line) (s : ℕ) (r : Recency) (p : ℕ) (d : Line) → p < length (recent r) → get_or (lines_of lines s r) p d ≡ line_in lines s (get_or (recent r) p 0)

@@ -1,8 +1,9 @@
 -- The bytes of a word.
-use Rattle.std.proofs.Common.{◌≡◌, ℕ, zero, suc, ◌+◌, ◌*◌, ◌/◌, ◌%◌, ◌^◌, ◌<◌, ◌≤◌, List, [], ◌∷◌, length, get_or, take, drop, refl, ap, ◌∙◌, ap₂, arith}
-use Rattle.std.proofs.lemmas.Nat.{pow-add}
-use Rattle.rules.specs.Bytes.{low_bytes, number_of, stretch}
-use Rattle.rules.proofs.Bytes.{length-stretch, get_or-stretch, number_of-more}
+use Rattle.std.proofs.Common.{◌≡◌, ℕ, zero, suc, ◌+◌, ◌*◌, ◌/◌, ◌%◌, ◌≤◌, List, [], ◌∷◌, ◌++◌, length, take, drop, replicate, refl, ap, ap₂, arith}
+use Rattle.std.proofs.lemmas.List.{drop_all}
+use Rattle.std.specs.Int.{from_le_bytes, w64}
+use Rattle.rules.specs.Bytes.{low_bytes, number_of}
+use Rattle.rules.proofs.Bytes.{number_of-more}
 
 pub take-low_bytes : (k m n : ℕ) → k ≤ m → take k (low_bytes m n) ≡ low_bytes k n
 take-low_bytes zero m n h = refl
@@ -19,14 +20,18 @@ eight_bytes n =
     cons : {a b : ℕ} {xs ys : List ℕ} → a ≡ b → xs ≡ ys → (a ∷ xs) ≡ (b ∷ ys)
     cons p q = ap₂ (λ (x : ℕ) (l : List ℕ). x ∷ l) p q
 
--- the number in a stretch, one byte more
-pub read_more : (bs : List ℕ) (from size i : ℕ) → i < size → from + size ≤ length bs
-    → number_of (drop i (stretch from size bs)) ≡ get_or bs (from + i) 0 + 256 * number_of (drop (i + 1) (stretch from size bs))
-read_more bs from size i h fits =
-    let long : i < length (stretch from size bs) = omega (arith, length-stretch from size bs fits) in
-    number_of-more (stretch from size bs) i long ∙ ap (λ b. b + 256 * number_of (drop (i + 1) (stretch from size bs))) (get_or-stretch from size bs i 0 h)
+-- as a word reads its bytes
+pub eight_read : (bs : List ℕ) → length bs ≡ 8 → from_le_bytes w64 bs ≡ number_of bs
+eight_read bs long =
+    omega (arith, number_of-more bs 0 (omega arith), number_of-more bs 1 (omega arith), number_of-more bs 2 (omega arith), number_of-more bs 3 (omega arith), number_of-more bs 4 (omega arith), number_of-more bs 5 (omega arith), number_of-more bs 6 (omega arith), number_of-more bs 7 (omega arith), ap number_of (drop_all 8 bs (omega arith)))
 
-pub byte_more : (v b n : ℕ) → v < 2 ^ (8 * n) → b < 256 → v * 256 + b < 2 ^ (8 * (n + 1))
-byte_more v b n small byte =
-    let more : 2 ^ (8 * (n + 1)) ≡ 2 ^ (8 * n) * 2 ^ 8 = ap (λ e. 2 ^ e) (omega arith) ∙ pow-add 2 (8 * n) 8 in
-    omega arith
+number_of-zeros : (k n : ℕ) → number_of (drop k (replicate n 0)) ≡ 0
+number_of-zeros zero zero = refl
+number_of-zeros (suc k) zero = refl
+number_of-zeros zero (suc n) = omega (arith, number_of-zeros zero n)
+number_of-zeros (suc k) (suc n) = number_of-zeros k n
+
+-- bytes with zeros behind them
+pub number_of-padded : (bs : List ℕ) (k n : ℕ) → number_of (bs ++ drop k (replicate n 0)) ≡ number_of bs
+number_of-padded [] k n = number_of-zeros k n
+number_of-padded (b ∷ bs) k n = ap (λ m. b + 256 * m) (number_of-padded bs k n)

@@ -1,12 +1,11 @@
 -- Where a block's line lies, and how the block comes forward.
-use Rattle.std.specs.Prelude.{◌≡◌, ℕ, ◌+◌, ◌*◌, ◌%◌, ◌<◌, true, false, cond, List, [], ◌∷◌, map, length, Some, None, vec_items, vec_len, Option, slice_index, slice_index_or, slice_set}
+use Rattle.std.specs.Prelude.{◌≡◌, ℕ, ◌+◌, ◌*◌, ◌%◌, ◌<◌, true, false, List, [], ◌∷◌, map, length, Some, None, vec_items, vec_len, Option, slice_index, slice_index_or, slice_set}
 use Rattle.rules.specs.Cache.{first, holds, forward, behind, set_for, on_set}
 use Rattle.rules.specs.declared.cache.Line.{Line}
 use Rattle.cache.specs.Recency.{recent}
 use Rattle.cache.specs.View.{settings_of, blank, table_of, sets_from, sets_of}
 use Rattle.cache.specs.declared.sets.Cache.{Cache}
 use Rattle.cache.specs.declared.sets.lookup.Found.{Found}
-use Rattle.cache.specs.declared.sets.lookup.Front.{Front}
 
 -- no line at a place below n holds the block
 abbrev pub AbsentBelow : ℕ → List Line → ℕ → Type 0
@@ -39,11 +38,6 @@ pub record ComesForward (block : ℕ) (before after : Cache) (slot : ℕ) : Type
   pub table : after.table ≡ before.table
   pub slotted : slot < length (table_of before)
   pub sets : (l : Line) → sets_from (slice_set (table_of before) slot l) 0 (vec_items after.orders) ≡ on_set (settings_of before) block (λ ls. l ∷ behind (settings_of before).ways block ls) (sets_of before)
-
--- and the slot holds the block's line, if the set had one
-pub record Promotes (block : ℕ) (before after : Cache) (f : Front) : Type 0 where
-  pub comes : ComesForward block before after f.slot
-  pub line : first (holds block) (block_set block before) ≡ cond f.present (Some (slice_index_or (table_of before) f.slot blank)) None
 
 -- the block's line, filled if it has to be, lies in the slot and is the first of its set
 pub record Brings (block : ℕ) (fill : List ℕ) (before after : Cache) (slot : ℕ) : Type 0 where

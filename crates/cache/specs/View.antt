@@ -1,6 +1,6 @@
 -- The settings of a cache, and the sets of lines that it holds.
-use Rattle.std.specs.Prelude.{ℕ, suc, ◌+◌, ◌*◌, List, [], ◌∷◌, map, vec_items, slice_index_or}
-use Rattle.rules.specs.Cache.{new_line}
+use Rattle.std.specs.Prelude.{◌≡◌, ℕ, suc, ◌+◌, ◌*◌, List, [], ◌∷◌, map, vec_items, slice_index_or}
+use Rattle.rules.specs.Cache.{new_line, empty_cache, Operation, applied}
 use Rattle.rules.specs.declared.cache.Line.{Line}
 use Rattle.rules.specs.declared.cache.Settings.{Settings}
 use Rattle.cache.specs.Recency.{recent}
@@ -32,3 +32,13 @@ table_of c = vec_items c.table.lines
 
 abbrev pub sets_of : Cache → List (List Line)
 sets_of c = sets_from (table_of c) 0 (vec_items c.orders)
+
+-- a cache with no line
+pub record IsEmpty (k : Settings) (c : Cache) : Type 0 where
+  pub settings : settings_of c ≡ k
+  pub sets : sets_of c ≡ empty_cache k
+
+-- the operation is done to a cache
+pub record Does (op : Operation) (before after : Cache) : Type 0 where
+  pub settings : settings_of after ≡ settings_of before
+  pub sets : sets_of after ≡ applied (settings_of before) op (sets_of before)

@@ -1,4 +1,4 @@
-ghost use Rattle.std.specs.Prelude.{◌≡◌, ℕ, ◌%◌, true};
+ghost use Rattle.std.specs.Prelude.{◌≡◌, ◌%◌, true};
 ghost use Rattle.std.specs.Option.{option_map};
 ghost use Rattle.rules.specs.Cache.{is_size, block_of, offset_of};
 ghost use Rattle.cache.specs.Access.{proper_access};
@@ -36,7 +36,8 @@ impl Access {
 
     // The bytes of its block that it takes.
     pub(crate) fn stretch(self) -> Stretch
-        ensures { ◌≡◌ {A = ℕ × ℕ} (result.from, result.size) (offset_of self.address, self.size) }
+        ensures from { result.from ≡ offset_of self.address }
+        ensures size { result.size ≡ self.size }
     {
         Stretch {
             from: (self.address % 16) as usize,
@@ -49,5 +50,5 @@ impl Access {
 pub(crate) fn is_size(n: u32) -> bool
     ensures { result ≡ is_size n }
 {
-    n == 1 || n == 2 || n == 4 || n == 8
+    matches!(n, 1 | 2 | 4 | 8)
 }

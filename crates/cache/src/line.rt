@@ -11,31 +11,24 @@ use rules::cache::{BlockBytes, Line};
 pub(crate) fn read(line: &Line, part: Stretch) -> u64
     ensures { result ≡ number_of (stretch part.from part.size line.now.bytes) }
 {
-    let mut value: u64 = 0;
-    for i in (0..part.size).rev() {
-        value = value * 256 + u64::from(line.bytes[part.from + i]);
-    }
-    value
+    let mut bytes = [0; 8];
+    bytes[..part.size].copy_from_slice(&line.bytes[part.from..part.from + part.size]);
+    u64::from_le_bytes(bytes)
 }
 
 // Writes the low bytes of a value over a part of a line.
 pub(crate) fn write(line: &mut Line, part: Stretch, value: u64)
     ensures { line.new ≡ overwritten part.from (low_bytes part.size value) line.old }
 {
-    let from = part.from;
-    let size = part.size;
     let bytes = value.to_le_bytes();
-    line.bytes[from..from + size].copy_from_slice(&bytes[0..size]);
+    line.bytes[part.from..part.from + part.size].copy_from_slice(&bytes[..part.size]);
 }
 
 // Whether every granule that lies whole in a part of a line has its flag.
 pub(crate) fn is_flagged(line: &Line, shape: Shape, part: Stretch) -> bool
     ensures { result ≡ all_flagged shape.settings.granule part.from part.size 0 line.now.flags }
 {
-    let granules = shape.granules(part);
-    let first = granules.first;
-    let end = granules.end;
-    for flag in &line.flags[first..end] {
+    for flag in &line.flags[shape.granules(part)] {
         if !*flag {
             return false;
         }
@@ -47,10 +40,7 @@ pub(crate) fn is_flagged(line: &Line, shape: Shape, part: Stretch) -> bool
 pub(crate) fn flag(line: &mut Line, shape: Shape, part: Stretch)
     ensures { line.new ≡ flagged_line shape.settings part.from part.size line.old }
 {
-    let granules = shape.granules(part);
-    let first = granules.first;
-    let end = granules.end;
-    line.flags[first..end].fill(true);
+    line.flags[shape.granules(part)].fill(true);
 }
 
 // Whether a load is known by the line of its block.
@@ -60,19 +50,25 @@ pub(crate) fn is_known(line: &Line, shape: Shape, access: Access) -> bool
     !line.stale && is_flagged(line, shape, shape.region(access))
 }
 
-// A line as it comes forward: new for a block that was absent, filled anew where it was stale.
-pub(crate) fn bring_in(line: &mut Line, present: bool, block: u32, fill: &BlockBytes)
-    ensures { line.new ≡ (if present then refreshed fill.now line.old else new_line fill.now block) }
+// A line that is new for a block.
+pub(crate) fn new_line(block: u32, fill: &BlockBytes) -> Line
+    ensures { result ≡ new_line fill.now block }
 {
-    if present && !line.stale {
-        return;
-    }
-    *line = Line {
-        block: if present { line.block } else { block },
+    Line {
+        block,
         bytes: *fill,
         flags: [false; 16],
         stale: false,
-    };
+    }
+}
+
+// A stale line takes the fill, and loses its flags and mark.
+pub(crate) fn refresh(line: &mut Line, fill: &BlockBytes)
+    ensures { line.new ≡ refreshed fill.now line.old }
+{
+    if line.stale {
+        *line = new_line(line.block, fill);
+    }
 }
 
 // What a load does to the line that has come forward, and the value that it reads.

@@ -1,4 +1,5 @@
-ghost use Rattle.std.specs.Prelude.{◌≡◌, ◌<◌, ◌≤◌, length, ◌≢◌, slice_index};
+ghost use Rattle.std.specs.Prelude.{◌≡◌, ◌<◌, ◌≤◌, ◌≢◌, length};
+ghost use Rattle.std.specs.List.{All, AllPairs};
 
 mod moves;
 
@@ -10,7 +11,6 @@ pub(crate) struct Recency {
     used: u8,
     ghost four: { length order ≡ 4 },
     ghost few: { used ≤ 4 },
-    ghost ways: { (slice_index order 0 < 4) × (slice_index order 1 < 4) × (slice_index order 2 < 4) × (slice_index order 3 < 4) },
-    ghost first: { (slice_index order 0 ≢ slice_index order 1) × (slice_index order 0 ≢ slice_index order 2) × (slice_index order 0 ≢ slice_index order 3) },
-    ghost later: { (slice_index order 1 ≢ slice_index order 2) × (slice_index order 1 ≢ slice_index order 3) × (slice_index order 2 ≢ slice_index order 3) },
+    ghost ways: { All (λ way. way < 4) order },
+    ghost apart: { AllPairs ◌≢◌ order },
 }

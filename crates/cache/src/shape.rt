@@ -1,11 +1,12 @@
-ghost use Rattle.std.specs.Prelude.{◌≡◌, ℕ, true, ◌&&◌, nat_le, nat_lt};
+ghost use Rattle.std.specs.Prelude.{◌≡◌, ◌≤◌, ℕ, true, ◌&&◌, nat_le, nat_lt};
 ghost use Rattle.std.specs.Option.{option_map};
 ghost use Rattle.rules.specs.Cache.{are_settings, region_from, region_size, within};
 ghost use Rattle.cache.specs.Access.{proper_settings};
 
 use crate::access::{Access, is_size};
-use crate::stretch::{Granules, Stretch};
+use crate::stretch::Stretch;
 use rules::cache::Settings;
+use std::ops::Range;
 
 // Settings that a cache can have: 1, 2, 4, 8 or 16 sets of at most 1, 2 or 4 lines, and granules of 1, 2, 4 or 8 bytes.
 #[derive(Clone, Copy)]
@@ -32,7 +33,8 @@ impl Shape {
 
     // The aligned stretch of max(size, granule) bytes that holds an access.
     pub(crate) fn region(self, access: Access) -> Stretch
-        ensures { ◌≡◌ {A = ℕ × ℕ} (result.from, result.size) (region_from self.settings access.address access.size, region_size self.settings access.size) }
+        ensures from { result.from ≡ region_from self.settings access.address access.size }
+        ensures size { result.size ≡ region_size self.settings access.size }
     {
         let size = self.region_size(access);
         let offset = access.stretch().from;
@@ -49,23 +51,20 @@ impl Shape {
     }
 
     // The granules that lie whole in a stretch.
-    pub(crate) fn granules(self, part: Stretch) -> Granules
-        ensures { (q : ℕ) → within self.settings.granule part.from part.size q ≡ (nat_le result.first q && nat_lt q result.end) }
+    pub(crate) fn granules(self, part: Stretch) -> Range<usize>
+        ensures whole { (q : ℕ) → within self.settings.granule part.from part.size q ≡ (nat_le result.start q && nat_lt q result.end) }
+        ensures order { result.start ≤ result.end }
+        ensures most { result.end ≤ 16 }
     {
         let granule = self.settings.granule as usize;
-        let first = (part.from + granule - 1) / granule;
+        let start = part.from.div_ceil(granule);
         let end = (part.from + part.size) / granule;
-        Granules {
-            first,
-            end: end.max(first),
-        }
+        start..end.max(start)
     }
 }
 
 fn are_settings(k: Settings) -> bool
     ensures { result ≡ are_settings k }
 {
-    let sets = k.sets == 1 || k.sets == 2 || k.sets == 4 || k.sets == 8 || k.sets == 16;
-    let ways = k.ways == 1 || k.ways == 2 || k.ways == 4;
-    sets && ways && is_size(k.granule)
+    matches!(k.sets, 1 | 2 | 4 | 8 | 16) && matches!(k.ways, 1 | 2 | 4) && is_size(k.granule)
 }

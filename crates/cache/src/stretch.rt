@@ -8,12 +8,3 @@ pub(crate) struct Stretch {
     ghost inside: { from + size ≤ 16 },
     ghost few: { size ≤ 8 },
 }
-
-// Granules of a line: those from `first` on, below `end`.
-#[derive(Clone, Copy)]
-pub(crate) struct Granules {
-    pub(crate) first: usize,
-    pub(crate) end: usize,
-    ghost order: { first ≤ end },
-    ghost most: { end ≤ 16 },
-}

@@ -31,13 +31,9 @@ impl Recency {
         requires { place < length (recent self.old) }
         ensures { recent self.new ≡ to_front place (recent self.old) }
     {
-        let [a, b, c, d] = self.order;
-        self.order = match place {
-            0 => [a, b, c, d],
-            1 => [b, a, c, d],
-            2 => [c, a, b, d],
-            _ => [d, a, b, c],
-        };
+        let mut order = self.order;
+        order[..=place].rotate_right(1);
+        self.order = order;
     }
 
     // The place whose way a new line gets: the first free one, or the last where all are in use.

@@ -1,11 +1,10 @@
-ghost use Rattle.std.specs.Prelude.{◌≡◌, ◌%◌, ◌<◌, map, length, vec_len};
+ghost use Rattle.std.specs.Prelude.{◌≡◌, ◌%◌, ◌<◌, length, vec_len};
 ghost use Rattle.std.specs.Option.{option_map};
-ghost use Rattle.rules.specs.Cache.{first, holds, invalidated_in, on_set};
-ghost use Rattle.rules.specs.CacheLaws.{blocks_in};
-ghost use Rattle.cache.specs.Lookup.{AbsentBelow, block_set, Lies, Finds, ComesForward, Promotes, Brings};
-ghost use Rattle.cache.specs.View.{settings_of, sets_of};
+ghost use Rattle.rules.specs.Cache.{first, holds};
+ghost use Rattle.cache.specs.Lookup.{AbsentBelow, block_set, Lies, Finds, ComesForward, Brings};
+ghost use Rattle.cache.specs.View.{settings_of};
 
-use crate::line::{bring_in, make_stale};
+use crate::line::{new_line, refresh};
 use crate::sets::Cache;
 use rules::cache::{BlockBytes, Line};
 
@@ -14,13 +13,6 @@ use rules::cache::{BlockBytes, Line};
 pub(crate) struct Found {
     pub(crate) place: usize,
     pub(crate) slot: usize,
-}
-
-// The slot of a block that has come forward, and whether its line lies there already.
-#[derive(Clone, Copy)]
-pub(crate) struct Front {
-    pub(crate) slot: usize,
-    pub(crate) present: bool,
 }
 
 impl Cache {
@@ -36,6 +28,7 @@ impl Cache {
     {
         let set = self.set_of(block);
         let order = self.orders[set];
+        // A `for` is plainer: each closure of a `find` would need a contract of its own.
         for place in 0..order.used() {
             let slot = 4 * set + order.way(place);
             if self.table.line(slot).block == block {
@@ -64,50 +57,28 @@ impl Cache {
         4 * set + self.orders[set].enter(ways)
     }
 
-    pub(crate) fn promote(&mut self, block: u32) -> Front
-        ensures { Promotes block self.old self.new result }
-    {
-        match self.find(block) {
-            Some(found) => {
-                self.touch(block, found);
-                Front {
-                    slot: found.slot,
-                    present: true,
-                }
-            }
-            None => Front {
-                slot: self.enter(block),
-                present: false,
-            },
-        }
-    }
-
     // The block's line comes forward, filled if it has to be. The answer is its slot.
     pub(crate) fn bring_forward(&mut self, block: u32, fill: &BlockBytes) -> usize
         ensures { Brings block fill.now self.old self.new result }
     {
-        let front = self.promote(block);
-        bring_in(self.table.line_mut(front.slot), front.present, block, fill);
-        front.slot
+        match self.find(block) {
+            Some(found) => {
+                self.touch(block, found);
+                refresh(self.table.line_mut(found.slot), fill);
+                found.slot
+            }
+            None => {
+                let slot = self.enter(block);
+                *self.table.line_mut(slot) = new_line(block, fill);
+                slot
+            }
+        }
     }
 
     pub(crate) fn line_of(&self, block: u32) -> Option<&Line>
         ensures { option_map (λ x. x.now) result ≡ first (holds block) (block_set block self.now) }
     {
-        match self.find(block) {
-            Some(found) => Some(self.table.line(found.slot)),
-            None => None,
-        }
-    }
-
-    // The block's line turns stale in its place, if there is one.
-    pub(crate) fn turn_stale(&mut self, block: u32)
-        ensures sets { sets_of self.new ≡ on_set (settings_of self.old) block (invalidated_in block) (sets_of self.old) }
-        ensures settings { settings_of self.new ≡ settings_of self.old }
-        ensures order { map blocks_in (sets_of self.new) ≡ map blocks_in (sets_of self.old) }
-    {
-        if let Some(found) = self.find(block) {
-            make_stale(self.table.line_mut(found.slot));
-        }
+        let found = self.find(block)?;
+        Some(self.table.line(found.slot))
     }
 }

@@ -1,33 +1,26 @@
 ghost use Rattle.std.specs.Prelude.{◌≡◌, map, IfOk};
-ghost use Rattle.rules.specs.Cache.{empty_cache, is_load_known, loaded_value, applied, load as load_of, store as store_of, invalidate as invalidate_of};
+ghost use Rattle.rules.specs.Cache.{is_load_known, loaded_value, load as load_of, store as store_of, invalidate as invalidate_of};
 ghost use Rattle.rules.specs.CacheLaws.{blocks_in, CacheLaws};
-ghost use Rattle.cache.specs.View.{settings_of, sets_of};
+ghost use Rattle.cache.specs.View.{settings_of, sets_of, IsEmpty, Does};
 
 use crate::access::Access;
-use crate::line::{is_known, take_load, take_store};
+use crate::line::{is_known, make_stale, new_line, take_load, take_store};
 use crate::recency::Recency;
 use crate::sets::Cache;
 use crate::shape::Shape;
 use crate::table::Table;
-use rules::cache::{BlockBytes, Line};
+use rules::cache::BlockBytes;
 use std::alloc::{AllocError, Global};
-
-const BLANK: Line = Line {
-    block: 0,
-    bytes: [0; 16],
-    flags: [false; 16],
-    stale: false,
-};
 
 impl Cache {
     // An empty cache. The laws speak of any operations on it; each call below is one.
+    #[tactic(auto, using(rules::proofs::CacheLaws::cache_laws))]
     pub fn new(heap: Global, shape: Shape) -> Result<Cache, AllocError>
-        ensures sets { IfOk result (λ c. sets_of c ≡ empty_cache shape.settings) }
-        ensures settings { IfOk result (λ c. settings_of c ≡ shape.settings) }
+        ensures empty { IfOk result (IsEmpty shape.settings) }
         ensures laws { CacheLaws shape.settings }
     {
         let sets = shape.settings().sets as usize;
-        let lines = vec![in heap; BLANK; 4 * sets]?;
+        let lines = vec![in heap; new_line(0, &[0; 16]); 4 * sets]?;
         let orders = vec![in heap; Recency::new(); sets]?;
         Ok(Cache {
             shape,
@@ -40,16 +33,13 @@ impl Cache {
     pub fn known(&self, access: Access) -> bool
         ensures { result ≡ is_load_known (settings_of self.now) access.address access.size (sets_of self.now) }
     {
-        match self.line_of(access.block()) {
-            Some(line) => is_known(line, self.shape, access),
-            None => false,
-        }
+        self.line_of(access.block())
+            .is_some_and(|line| is_known(line, self.shape, access))
     }
 
     // The value of a load. The fill is what the line takes if its block is absent or stale.
     pub fn load(&mut self, access: Access, fill: &BlockBytes) -> u64
-        ensures sets { sets_of self.new ≡ applied (settings_of self.old) (load_of fill.now access.address access.size) (sets_of self.old) }
-        ensures settings { settings_of self.new ≡ settings_of self.old }
+        ensures cache { Does (load_of fill.now access.address access.size) self.old self.new }
         ensures value { result ≡ loaded_value (settings_of self.old) fill.now access.address access.size (sets_of self.old) }
     {
         let known = self.known(access);
@@ -60,8 +50,7 @@ impl Cache {
 
     // Writes the value's low bytes to the line. The fill is what the line takes if its block is absent or stale.
     pub fn store(&mut self, access: Access, value: u64, fill: &BlockBytes)
-        ensures sets { sets_of self.new ≡ applied (settings_of self.old) (store_of fill.now access.address access.size value) (sets_of self.old) }
-        ensures settings { settings_of self.new ≡ settings_of self.old }
+        ensures { Does (store_of fill.now access.address access.size value) self.old self.new }
     {
         let shape = self.shape;
         let slot = self.bring_forward(access.block(), fill);
@@ -70,10 +59,11 @@ impl Cache {
 
     // Marks the address's line stale, if there is one. It keeps its place in the order of use.
     pub fn invalidate(&mut self, address: u32)
-        ensures sets { sets_of self.new ≡ applied (settings_of self.old) (invalidate_of address) (sets_of self.old) }
-        ensures settings { settings_of self.new ≡ settings_of self.old }
+        ensures cache { Does (invalidate_of address) self.old self.new }
         ensures order { map blocks_in (sets_of self.new) ≡ map blocks_in (sets_of self.old) }
     {
-        self.turn_stale(address / 16);
+        if let Some(found) = self.find(address / 16) {
+            make_stale(self.table.line_mut(found.slot));
+        }
     }
 }

@@ -1,5 +1,5 @@
-use Rattle.std.proofs.Common.{◌≡◌, ℕ, ◌+◌, ◌<◌, ◌≤◌, true, false, get_or}
+use Rattle.std.proofs.Common.{◌≡◌, ℕ, ◌<◌, true, false, get_or}
 use Rattle.cache.proofs.line.is_flagged.Given as goal
 
 abbrev pub invariant-loop-flag : goal.invariant-loop-flag
-invariant-loop-flag l = (i : ℕ) → l.first ≤ i → i < l.first + l.flag-index → get_or l.line.flags i false ≡ true
+invariant-loop-flag l = (i : ℕ) → i < l.flag-index → get_or l.flag-items i false ≡ true

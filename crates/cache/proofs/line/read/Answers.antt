@@ -1,28 +1,15 @@
-use Rattle.std.proofs.Common.{◌≡◌, ◌+◌, ◌-◌, ◌*◌, ◌^◌, ◌≤◌, drop, ap, arith, pow_mono}
+use Rattle.std.proofs.Common.{◌≡◌, ℕ, List, ◌++◌, length, take, drop, replicate, ap, ◌∙◌, arith, length-append, length-drop}
 use Rattle.rules.specs.Bytes.{number_of, stretch}
-use Rattle.cache.proofs.Words.{read_more, byte_more}
+use Rattle.rules.proofs.Bytes.{length-stretch}
+use Rattle.cache.proofs.Words.{eight_read, number_of-padded}
 use Rattle.cache.proofs.line.read.Goals as goal
 
-pub overflow_mul-value : goal.overflow_mul-value
-overflow_mul-value c =
-    let n = c.args.part.size - c.loop-i.i in
-    let few : 8 * n ≤ 56 = omega (arith, c.args.part.few) in
-    record { fits = omega (arith, c.loop-i.invariant.1, pow_mono {i = 8 * n} {j = 56} few) }
-
-pub overflow_add-value : goal.overflow_add-value
-overflow_add-value c =
-    let n = c.args.part.size - c.loop-i.i in
-    let few : 8 * n ≤ 56 = omega (arith, c.args.part.few) in
-    record { fits = omega (arith, c.loop-i.invariant.1, pow_mono {i = 8 * n} {j = 56} few) }
-
-pub loop-i-preserved : goal.loop-i-preserved
-loop-i-preserved c =
-    let part = c.args.part in
+pub returns : goal.returns
+returns c =
+    let from = c.args.part.from in
+    let size = c.args.part.size in
     let bytes = c.args.line.now.bytes in
-    let i = c.loop-i.i - 1 in
-    let n = part.size - c.loop-i.i in
-    let back : i + 1 ≡ c.loop-i.i = omega arith in
-    let more = read_more bytes part.from part.size i (omega arith) (omega (arith, part.inside)) in
-    let small = byte_more c.loop-i.value c.from.result n c.loop-i.invariant.1 (omega (arith, c.from.ensures)) in
-    let width = ap (λ e. 2 ^ (8 * e)) {x = n + 1} {y = part.size - i} (omega arith) in
-    (omega (arith, more, c.from.ensures, c.loop-i.invariant.0, ap (λ j. number_of (drop j (stretch part.from part.size bytes))) back), omega (arith, small, width))
+    let copied : c.copy_from_slice.new.self ≡ stretch from size bytes = c.copy_from_slice.ensures.after ∙ ap (λ n. take n (drop from bytes)) (omega arith) in
+    let zeros : List ℕ = replicate 8 0 in
+    let long : length (c.copy_from_slice.new.self ++ drop size zeros) ≡ 8 = omega (arith, length-append c.copy_from_slice.new.self (drop size zeros), length-drop size zeros, ap length copied, length-stretch from size bytes (omega (arith, c.args.part.inside)), c.args.part.few) in
+    c.from_le_bytes.ensures ∙ eight_read _ long ∙ number_of-padded c.copy_from_slice.new.self size 8 ∙ ap number_of copied

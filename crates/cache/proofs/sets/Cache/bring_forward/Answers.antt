@@ -1,26 +1,26 @@
-use Rattle.std.proofs.Common.{◌≡◌, ◌<◌, length, ◌∙◌, arith}
-use Rattle.std.proofs.lemmas.List.{get_or-set_same}
-use Rattle.rules.specs.Cache.{first, holds, forward}
+use Rattle.std.proofs.Common.{get_or, vec_items, sym, refl, ap, ◌∙◌}
+use Rattle.rules.specs.Cache.{holds, forward}
+use Rattle.rules.proofs.Sets.{first_none}
 use Rattle.cache.specs.Lookup.{block_set}
-use Rattle.cache.specs.View.{table_of}
-use Rattle.cache.proofs.Operations.{slot_inside, brought, front_sets, settings_same}
+use Rattle.cache.specs.View.{blank}
+use Rattle.cache.proofs.Operations.{found_line, brings}
 use Rattle.cache.proofs.sets.Cache.bring_forward.Goals as goal
 
-pub returns : goal.returns
-returns c =
+pub returns-in-Some : goal.returns-in-Some
+returns-in-Some c =
     let before = c.args.self.now in
-    let after = c.promote-front.new.self in
-    let f = c.promote-front.result in
-    let up = c.promote-front.ensures in
+    let found = c.in-Some.found in
     let fill = c.args.fill.now in
-    let b = c.args.block in
-    let inside = slot_inside b before after f up in
-    let came : c.bring_in.new.line ≡ forward fill b (first (holds b) (block_set b before)) =
-    c.bring_in.ensures ∙ brought b before after f up fill c.line_mut.result.now c.line_mut.ensures.value in
-    let held : f.slot < length (table_of after) = omega (arith, inside, after.table.lines.ok.0) in
-    record {
-      settings = settings_same b before after f up;
-      slotted = inside;
-      line = λ l is. is ∙ get_or-set_same (table_of after) f.slot c.bring_in.new.line l held ∙ came;
-      sets = front_sets b before after f up c.bring_in.new.line;
-    }
+    let block = c.args.block in
+    let old = c.line_mut.result.now in
+    let is = c.line_mut.ensures.value ∙ ap (λ t. get_or (vec_items t.lines) found.slot old) c.touch.ensures.table in
+    brings block fill before c.touch.new.self _ found.slot c.refresh.new.line c.touch.ensures refl refl refl
+    (c.refresh.ensures ∙ ap (forward fill block) (sym (found_line block before found.place found.slot old c.in-Some.ensures is)))
+
+pub returns-in-None : goal.returns-in-None
+returns-in-None c =
+    let before = c.args.self.now in
+    let fill = c.args.fill.now in
+    let block = c.args.block in
+    brings block fill before c.enter-slot.new.self _ c.enter-slot.result c.new_line.result c.enter-slot.ensures refl refl refl
+    (c.new_line.ensures ∙ ap (forward fill block) (sym (first_none (holds block) (block_set block before) blank c.in-None.ensures)))

@@ -1,12 +1,10 @@
-use Rattle.std.proofs.Common.{◌≡◌, ℕ, ◌+◌, ◌*◌, ◌<◌, false, List, length, get_or, sym, ap, ◌∙◌, subst, arith, below_more}
+use Rattle.std.proofs.Common.{◌≡◌, ℕ, ◌+◌, ◌*◌, ◌<◌, List, length, get_or, sym, ap, ◌∙◌, subst, arith}
 use Rattle.std.proofs.lemmas.List.{get_or_read}
-use Rattle.std.proofs.lemmas.Bool.{ne_eqb}
-use Rattle.rules.specs.Cache.{holds}
 use Rattle.rules.specs.declared.cache.Line.{Line}
 use Rattle.cache.specs.Lookup.{Lies}
 use Rattle.cache.specs.Recency.{recent}
 use Rattle.cache.specs.View.{blank, line_in, table_of}
-use Rattle.cache.proofs.Lookup.{lies, absent, slot_below}
+use Rattle.cache.proofs.Lookup.{IsSetOf, lies, absent, slot_below}
 use Rattle.cache.proofs.sets.Cache.find.Goals as goal
 
 -- the line that was looked at
@@ -23,27 +21,12 @@ returns-then-line-block c =
     let r = c.index.result.now in
     let p = c.loop-place.place in
     let h : p < length (recent r) = omega (arith, c.used-place-end.ensures) in
-    let is = c.set_of-set.ensures.is in
-    let inside = c.set_of-set.ensures.inside in
-    let line = looked (table_of self) s c.way.result (get_or (recent r) p 0) c.line.result.now c.way.ensures c.line.ensures (slot_below self block s r is inside c.index.ensures p h) in
+    let home : IsSetOf c.args.block self c.set_of-set.result c.index.result.now = record { is = c.set_of-set.ensures.is; inside = c.set_of-set.ensures.inside; order = c.index.ensures } in
+    let line = looked (table_of self) s c.way.result (get_or (recent r) p 0) c.line.result.now c.way.ensures c.line.ensures (slot_below home p h) in
     subst (λ w. Lies block self p (4 * s + w)) (sym c.way.ensures)
-    (lies self block s r is inside c.index.ensures p h (sym (ap (λ (l : Line). l.block) line) ∙ c.if-line-block.true) c.loop-place.invariant)
-
-pub loop-place-preserved : goal.loop-place-preserved
-loop-place-preserved c =
-    let self = c.args.self.now in
-    let block = c.args.block in
-    let s = c.set_of-set.result in
-    let r = c.index.result.now in
-    let p = c.loop-place.place in
-    let h : p < length (recent r) = omega (arith, c.used-place-end.ensures) in
-    let line = looked (table_of self) s c.way.result (get_or (recent r) p 0) c.line.result.now c.way.ensures c.line.ensures
-    (slot_below self block s r c.set_of-set.ensures.is c.set_of-set.ensures.inside c.index.ensures p h) in
-    below_more (λ i. holds block (line_in (table_of self) s (get_or (recent r) i 0)) ≡ false) p c.loop-place.invariant
-    (sym (ap (holds block) line) ∙ ne_eqb c.line.result.now.block block c.if-line-block.false)
+    (lies home p h (sym (ap (λ (l : Line). l.block) line) ∙ c.if-line-block.true) c.loop-place.invariant)
 
 pub returns : goal.returns
 returns c =
-    let r = c.index.result.now in
-    absent c.args.self.now c.args.block c.set_of-set.result r c.set_of-set.ensures.is c.set_of-set.ensures.inside c.index.ensures
-    (λ i l. c.loop-place.invariant i (omega (arith, c.used-place-end.ensures)))
+    let home : IsSetOf c.args.block c.args.self.now c.set_of-set.result c.index.result.now = record { is = c.set_of-set.ensures.is; inside = c.set_of-set.ensures.inside; order = c.index.ensures } in
+    absent home (λ i l. c.loop-place.invariant i (omega (arith, c.used-place-end.ensures)))

@@ -1,16 +1,9 @@
-use Rattle.std.proofs.Common.{◌≡◌, ℕ, [], map, length, get_or, replicate, vec_items, ap, ◌∙◌, arith}
+use Rattle.std.proofs.Common.{◌≡◌, ℕ, [], map, length, get_or, replicate, vec_items, refl, ap, ◌∙◌, arith}
 use Rattle.rules.specs.declared.cache.Settings.{Settings}
-use Rattle.rules.proofs.CacheLaws.{cache_laws}
 use Rattle.cache.specs.Recency.{recent}
 use Rattle.cache.specs.View.{sets_from}
 use Rattle.cache.proofs.Operations.{empty_sets, empty_ways}
 use Rattle.cache.proofs.sets.Cache.new.Goals as goal
-
-pub returns-in_err-lines-clause-laws : goal.returns-in_err-lines-clause-laws
-returns-in_err-lines-clause-laws c = cache_laws c.args.shape.settings c.args.shape.proper
-
-pub returns-in_err-orders-clause-laws : goal.returns-in_err-orders-clause-laws
-returns-in_err-orders-clause-laws c = cache_laws c.args.shape.settings c.args.shape.proper
 
 pub invariant_of-result-clause-few : goal.invariant_of-result-clause-few
 invariant_of-result-clause-few c =
@@ -19,12 +12,9 @@ invariant_of-result-clause-few c =
     λ s. ap (λ rs. get_or (map recent rs) s []) orders ∙ empty_ways c.settings-sets.result.sets s c.new.result c.new.ensures in
     λ s. omega (arith, ap length (none s))
 
-pub returns-clause-laws : goal.returns-clause-laws
-returns-clause-laws c = cache_laws c.args.shape.settings c.args.shape.proper
-
-pub returns-clause-sets : goal.returns-clause-sets
-returns-clause-sets c =
+pub returns-clause-empty : goal.returns-clause-empty
+returns-clause-empty c =
     let sets = ap (λ (k : Settings). k.sets) c.settings-sets.ensures in
     let orders = c.in_ok-orders.ensures.items_if_clones_equal (λ y e. e) in
     let lines = vec_items c.in_ok-lines.lines in
-    ap (sets_from lines 0) orders ∙ empty_sets lines 0 c.settings-sets.result.sets c.new.result c.new.ensures ∙ ap (λ n. replicate n []) sets
+    record { settings = refl; sets = ap (sets_from lines 0) orders ∙ empty_sets lines 0 c.settings-sets.result.sets c.new.result c.new.ensures ∙ ap (λ n. replicate n []) sets }
