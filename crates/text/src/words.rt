@@ -47,10 +47,8 @@ impl<'a> Words<'a> {
             (λ w. (self.now.at ≤ length self.now.line.now) × (w.now ≡ word_at self.now.line.now self.now.at))
             (λ place. (length self.now.line.now < self.now.at) × (place ≡ next_place (words_at self.now))) }
     {
-        match self.line.get(self.at..) {
-            Some(rest) => Ok(up_to(rest, b' ')),
-            None => Err(self.place()),
-        }
+        let rest = self.line.get(self.at..).ok_or(self.place())?;
+        Ok(up_to(rest, b' '))
     }
 
     // The next word as a number that is not above `most`.
