@@ -1,6 +1,6 @@
 ghost use Rattle.std.specs.Prelude.{◌≡◌, ℕ, IfOk, string_bytes};
 ghost use Rattle.codes.specs.Series.{ReadBack};
-ghost use Rattle.counts.specs.Output.{count_lines, read_lines, output_in, output_of};
+ghost use Rattle.counts.specs.Output.{count_lines, read_lines, output_of};
 
 use crate::report::{Bits, Line};
 use codes::series::write_series;
@@ -42,21 +42,17 @@ fn listed<C: CountCode>(
     Ok(listing)
 }
 
-// What is printed for counts that are written into a buffer.
-fn shown<C: CountCode>(
-    heap: Global,
-    code: &C,
-    counts: &[u64],
-    buffer: &mut [u8],
-) -> Result<String, AllocError>
-    ensures { IfOk result (λ s. string_bytes s ≡ output_in (C.CountCode.meaning code.now) counts.now buffer.old) }
+// All that is printed for counts in a code, over a buffer of 1,024 bytes.
+pub fn output<C: CountCode>(heap: Global, code: &C, counts: &[u64]) -> Result<String, AllocError>
+    ensures { IfOk result (λ s. string_bytes s ≡ output_of (C.CountCode.meaning code.now) counts.now) }
 {
-    let series = write_series(code, counts, 0, buffer);
+    let mut buffer = [0u8; 1024];
+    let series = write_series(code, counts, 0, &mut buffer);
     let written = series.written.min(counts.len());
     let Listing {
         counts: mut text,
         reads,
-    } = listed(heap, code, &counts[..written], buffer)?;
+    } = listed(heap, code, &counts[..written], &buffer)?;
     if let Some(refusal) = series.refusal {
         writeln!(text, "{}", Line::Refused(u8::from(refusal)))?;
     }
@@ -69,12 +65,4 @@ fn shown<C: CountCode>(
     };
     writeln!(text, "{total}")?;
     Ok(text)
-}
-
-// All that is printed for counts in a code, over a buffer of 1,024 bytes.
-pub fn output<C: CountCode>(heap: Global, code: &C, counts: &[u64]) -> Result<String, AllocError>
-    ensures { IfOk result (λ s. string_bytes s ≡ output_of (C.CountCode.meaning code.now) counts.now) }
-{
-    let mut buffer = vec![in heap; 0u8; 1024]?;
-    shown(heap, code, counts, &mut buffer)
 }
