@@ -15,7 +15,7 @@ is_test = lambda p: p.name == "tests.rt"
 
 ROWS = [
     ("1a", "own enums", r"^\s*(pub(\(crate\))? )?enum ", False),
-    ("1b", "numbers for refusals or kinds", r"fn number\(self\)|\bkind: u\d+,", False),
+    ("1b", "numbers for refusals or kinds", r"fn number\(self\) -> (u8|Option)|\bkind: u\d+,", False),
     ("1c", "a flag as a field or a parameter", r"\b\w+: bool\b", False),
     ("1d", "a result or option taken apart to be made again, an error made by hand",
      r"(Ok|Some)\(\w+\) => (Ok|Some)\(|Err\(\w*\) => Err\(|None => (None|Err\()|Err\(AllocError\)|Ok\(\w+\) => \w+ = ", True),
@@ -23,8 +23,8 @@ ROWS = [
     ("3b", "an index with a sum in it", r"\w\[[^\]:]*[+*/][^\]]*\]|\(\w+ \+ i\b", False),
     ("4a", "impls of the standard traits by hand",
      r"^\s*impl.* (PartialEq|Eq|PartialOrd|Ord|Clone|Copy|Hash|Default|Debug)\b.* for ", False),
-    ("4b", "a conversion as a function", r"fn \w*(decoded|numbered|number|digit_char|bit_char|bytes_for)\w*\(", False),
-    ("4c", "printing as a function that makes a text", r"fn (\w+_line|\w*text|digits|refused_making|bad_word)\(", False),
+    ("4b", "a conversion as a function", r"fn (decoded|\w+_numbered|number\(self|number32|number\(word|digit_char|digit_value|bit_char)\b", False),
+    ("4c", "printing as a function that makes a text", r"fn (\w+_line|\w*text|digits|refused_making|bad_word)\(.*(String|text: )|fn count_line\(", False),
     ("4d", "a chain of comparisons with numbers", r"(\w+ == \d+ \|\| ){2}|\d+ <= \w+ && \w+ <= |\w+ < \d+ \|\| \w+ > ", False),
     ("6a", "an array or slice with a length or place beside it", r"^\s*(pub(\(crate\))? )?(order|line|word): (\[.*;.*\]|&'a \[u8\]|u64),", False),
     ("6b", "two texts or lists side by side", r"^\s*(counts|reads|order|orders|registers|words|accesses): (String|Vec<.*>|\[.*\]),", False),
@@ -45,7 +45,7 @@ text = "\n".join(p.read_text() for p in files if not is_test(p))
 clauses, views, params = (collections.defaultdict(set) for _ in range(3))
 for m in re.finditer(r"fn (\w+)(?:<[^(]*>)?\(([^{]*?)\)[^{;]*?\n?((?:\s*(?:requires|ensures\*?)[^\n]*\n)+|\{)", text):
     name, args, contract = m.groups()
-    kinds = re.findall(r"(\w+): (&?(?:mut )?(?:'a )?[A-Z]\w*)", args)
+    kinds = re.findall(r"(\w+): ([^,]+)", args)
     for i in range(len(kinds)):
         for j in range(i + 1, len(kinds)):
             params[f"{kinds[i][0]}: {kinds[i][1]}, {kinds[j][0]}: {kinds[j][1]}"].add(name + str(m.start()))

@@ -12,7 +12,7 @@ use crate::writer::write_bits;
 use rules::count::{CodeName, CountCode, CountFault, Counted, WriteRefusal};
 use std::marker::Model;
 
-// Counts in groups of bits: one of `first` bits, and then ones of `later` bits.
+/// Counts in groups of bits: one of `first` bits, and then ones of `later` bits.
 #[derive(Clone, Copy)]
 pub struct Chunked {
     first: u32,
@@ -40,7 +40,7 @@ fn in_range(length: u32) -> bool
     (1..=6).contains(&length)
 }
 
-// Up to 64 bits, lowest first.
+// Up to 64 bits, lowest first, seen as a list. A word and a size, since a code's calls take no heap.
 #[derive(Clone, Copy)]
 struct Spelled {
     word: u64,
@@ -94,6 +94,7 @@ impl Chunked {
         let mut rest = u64::from(number);
         let mut spelled = Spelled { word: 0, size: 0 }.then(rest, self.first);
         rest >>= self.first;
+        // A number, not a list, is taken apart here and put together below; so neither loop has an iterator.
         while rest > 0 {
             spelled = spelled.then(rest, self.later);
             rest >>= self.later;

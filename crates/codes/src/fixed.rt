@@ -8,7 +8,7 @@ use crate::refusal::MakeRefusal;
 use crate::writer::write_bits;
 use rules::count::{CodeName, CountCode, CountFault, Counted, WriteRefusal};
 
-// Every count in `width` bits.
+/// Every count in `width` bits.
 #[derive(Clone, Copy)]
 pub struct Fixed {
     width: u32,

@@ -1,4 +1,4 @@
-// Count codes over byte slices, with the bit reader and the bit writer that they are made of.
+//! Count codes over byte slices, with the bit reader and the bit writer that they are made of.
 #![tactic(auto)]
 
 ghost use Rattle.std.specs.Prelude.{◌≡◌, length};
@@ -13,7 +13,7 @@ pub mod series;
 mod tests;
 pub mod writer;
 
-// How many worked examples of the chunked code are proved.
+/// How many worked examples of the chunked code are proved.
 pub fn worked_examples() -> usize
     ensures hold { WorkedExamples }
     ensures many { result ≡ length examples }

@@ -4,7 +4,7 @@ ghost use Rattle.codes.specs.Reader.{bits_left, word_taken, moved};
 
 use rules::count::BytesEnd;
 
-// Reads bits of a slice from a place on.
+/// Reads bits of a slice from a place on.
 #[derive(Clone, Copy)]
 pub struct BitReader<'a> {
     bytes: &'a [u8],
@@ -23,15 +23,15 @@ impl<'a> BitReader<'a> {
         }
     }
 
-    // The place of the next bit.
+    /// The place of the next bit.
     pub fn place(&self) -> usize
         ensures { result ≡ self.now.place }
     {
         self.place
     }
 
-    // The next `width` bits as a number, lowest first; a word has 64, so no more are taken at once.
-    // Where fewer are left, the fault tells where the reader began, and the reader stays.
+    /// The next `width` bits as a number, lowest first; a word has 64, so no more are taken at once.
+    /// Where fewer are left, the fault tells where the reader began, and the reader stays.
     pub fn take(&mut self, width: u32) -> Result<u64, BytesEnd>
         ensures answer { result ≡ word_taken self.old.from (min width 64) (bits_left self.old) }
         ensures after { self.new ≡ moved self.old (min width 64) }
@@ -46,7 +46,7 @@ impl<'a> BitReader<'a> {
     }
 }
 
-// How many bits of a slice have a place after them.
+/// How many bits of a slice have a place after them.
 pub fn bit_len(bytes: &[u8]) -> usize
     ensures { result ≡ length (bits_in bytes.now) }
 {

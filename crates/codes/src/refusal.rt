@@ -1,7 +1,7 @@
 ghost use Rattle.std.specs.Prelude.{◌≡◌};
 ghost use Rattle.codes.specs.Refusal.{making_number};
 
-// Why a code is not made.
+/// Why a code is not made.
 #[derive(Clone, Copy, Debug, PartialEq, Eq)]
 pub enum MakeRefusal {
     OutOfRange,

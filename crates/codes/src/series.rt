@@ -3,7 +3,7 @@ ghost use Rattle.codes.specs.Series.{series_from, series_bytes, ReadBack};
 
 use rules::count::{CountCode, WriteRefusal};
 
-// How many counts of a series were written, the place after them, and why the next was refused, if one was.
+/// How many counts of a series were written, the place after them, and why the next was refused, if one was.
 // No `Result`: the count and the place stand in both outcomes.
 #[derive(Clone, Copy)]
 pub struct Series {
@@ -12,8 +12,8 @@ pub struct Series {
     pub refusal: Option<WriteRefusal>,
 }
 
-// Writes counts one after the other from the place on, up to the first that is refused.
-// Whatever the code, they are then read back as themselves.
+/// Writes counts one after the other from the place on, up to the first that is refused.
+/// Whatever the code, they are then read back as themselves.
 pub fn write_series<C: CountCode>(
     code: &C,
     numbers: &[u64],

@@ -5,7 +5,7 @@ ghost use Rattle.rules.specs.Calls.{room, laid};
 use crate::reader::{bit_at, bit_len};
 use rules::count::WriteRefusal;
 
-// Lays the lowest `width` bits of `word` over the buffer's from the place on, and answers the place after them.
+/// Lays the lowest `width` bits of `word` over the buffer's from the place on, and answers the place after them.
 pub fn write_bits(
     word: u64,
     width: u32,
@@ -21,6 +21,7 @@ pub fn write_bits(
     }
     let end = place + width as usize;
     let mut rest = word;
+    // By places: a bit is no element that a slice could lend.
     for at in place..end {
         set_bit(buffer, at, rest % 2 == 1);
         rest /= 2;

@@ -1,4 +1,4 @@
-// Writes counts in a code and reads them back, so that codes can be compared.
+//! Writes counts in a code and reads them back, so that codes can be compared.
 #![tactic(auto)]
 
 mod output;

@@ -7,7 +7,8 @@ use codes::series::write_series;
 use rules::count::CountCode;
 use std::alloc::{AllocError, Global};
 
-// The lines of a buffer's counts, as they were written and as they are read back.
+// The lines of a buffer's counts, as they were written and as they are read back. They are two texts, of which the
+// second is printed far behind the first.
 #[derive(Drop)]
 struct Listing {
     counts: String,
@@ -42,7 +43,7 @@ fn listed<C: CountCode>(
     Ok(listing)
 }
 
-// All that is printed for counts in a code, over a buffer of 1,024 bytes.
+/// All that is printed for counts in a code, over a buffer of 1,024 bytes.
 pub fn output<C: CountCode>(heap: Global, code: &C, counts: &[u64]) -> Result<String, AllocError>
     ensures { IfOk result (λ s. string_bytes s ≡ output_of (C.CountCode.meaning code.now) counts.now) }
 {

@@ -43,7 +43,7 @@ fn answer(heap: Global, request: &Request) -> Result<String, AllocError>
     }
 }
 
-// All that is printed for an input.
+/// All that is printed for an input.
 pub fn reply(heap: Global, text: &[u8]) -> Result<String, AllocError>
     ensures { IfOk result (λ s. string_bytes s ≡ reply_to text.now) }
 {

@@ -5,7 +5,7 @@ use std::fmt;
 use text::hex::{Hex, HexBytes};
 use text::place::Place;
 
-// The bits of a buffer between two places, as 0s and 1s.
+/// The bits of a buffer between two places, as 0s and 1s.
 #[derive(Clone, Copy)]
 pub struct Bits<'a> {
     pub from: usize,
@@ -30,7 +30,7 @@ impl fmt::Display for Bits<'_> {
     }
 }
 
-// A line that is printed.
+/// A line that is printed.
 #[derive(Clone, Copy)]
 pub enum Line<'a> {
     Count { count: u64, bits: Bits<'a> },

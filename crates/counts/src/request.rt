@@ -117,7 +117,7 @@ fn counts_asked(heap: Global, lines: Lines) -> Result<Vec<u64>, ParseFault>
     Ok(counts)
 }
 
-// What the first 4,096 bytes of a text ask for.
+/// What a text asks for.
 pub fn parse(heap: Global, text: &[u8]) -> Result<Request, ParseFault>
     ensures { Tells result (asked_by text.now) }
 {

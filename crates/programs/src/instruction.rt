@@ -3,7 +3,7 @@ ghost use Rattle.programs.specs.Instruction.{size_bytes, op_numbered, instructio
 
 use crate::register::Register;
 
-// How many bytes a load or a store moves.
+/// How many bytes a load or a store moves.
 #[derive(Clone, Copy)]
 pub enum Size {
     One,
@@ -22,7 +22,7 @@ impl Size {
         }
     }
 
-    // The value's low bytes.
+    /// The value's low bytes.
     pub(crate) fn low(self, value: u64) -> u32
         ensures { result ≡ value % 256 ^ size_bytes self }
     {
@@ -35,7 +35,7 @@ impl Size {
     }
 }
 
-// What a word does. `Other` is every op but 1 to 10, and ends the program.
+/// What a word does. `Other` is every op but 1 to 10, and ends the program.
 #[derive(Clone, Copy)]
 pub enum Op {
     Constant,
@@ -67,7 +67,7 @@ impl From<u32> for Op {
     }
 }
 
-// A word taken apart: `k` is below 2^16.
+/// A word taken apart: `k` is below 2^16.
 #[derive(Clone, Copy)]
 pub struct Instruction {
     pub op: Op,

@@ -1,4 +1,4 @@
-// Programs that recorder and player can run: a list of accesses, and a small core.
+//! Programs that recorder and player can run: a list of accesses, and a small core.
 #![tactic(auto)]
 
 mod instruction;

@@ -14,7 +14,7 @@ const LOAD: u8 = 1;
 
 const STORE: u8 = 2;
 
-// A load or a store; a list ends at an access of any other kind.
+/// A load or a store; a list ends at an access of any other kind.
 #[derive(Clone, Copy)]
 pub struct ListedAccess {
     // No enum: the state tells each kind's number, and a case for the others would have to leave out 1 and 2.
@@ -31,7 +31,7 @@ const PAST: ListedAccess = ListedAccess {
     value: 0,
 };
 
-// Wants its accesses one after the other, up to the first of another kind, and keeps the value loaded last.
+/// Wants its accesses one after the other, up to the first of another kind, and keeps the value loaded last.
 #[derive(Drop)]
 pub struct AccessList {
     accesses: Vec<ListedAccess>,

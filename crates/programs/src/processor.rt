@@ -10,7 +10,7 @@ use crate::register::Register;
 use rules::program::{Program, Want};
 use std::alloc::Global;
 
-// Does the word at its place, from word 0 on.
+/// Does the word at its place, from word 0 on.
 #[derive(Drop)]
 pub struct Core {
     place: usize,

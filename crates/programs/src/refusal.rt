@@ -6,10 +6,10 @@ ghost use Rattle.programs.specs.declared.refusal.ProgramRefusal.TheVariants.{NoM
 
 use std::alloc::{AllocError, Global};
 
-// The most words or accesses that a program has.
+/// The most words or accesses that a program has.
 pub const LONGEST: usize = 1024;
 
-// Why a program is not made.
+/// Why a program is not made.
 #[derive(Clone, Copy, PartialEq, Eq)]
 pub enum ProgramRefusal {
     TooLong,
@@ -38,7 +38,7 @@ impl TryFrom<ProgramRefusal> for u8 {
     }
 }
 
-// The words or accesses of a program, if they are not too many.
+/// The words or accesses of a program, if they are not too many.
 pub(crate) fn copied<T: Copy>(heap: Global, items: &[T]) -> Result<Vec<T>, ProgramRefusal>
     ensures { Makes (length items.now) items.now (on_ok (λ v. v.items) result) }
 {

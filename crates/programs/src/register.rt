@@ -2,7 +2,7 @@ ghost use Rattle.std.specs.Prelude.{◌≡◌, ℕ, ◌%◌, ◌<◌};
 
 use std::marker::Model;
 
-// The number of one of the core's eight registers.
+/// The number of one of the core's eight registers.
 #[derive(Clone, Copy)]
 pub struct Register {
     number: usize,
@@ -19,7 +19,7 @@ impl Model for Register {
 }
 
 impl Register {
-    // The low three bits.
+    /// The low three bits.
     pub(crate) fn from_bits(bits: u32) -> Register
         ensures { result ≡ bits % 8 }
     {

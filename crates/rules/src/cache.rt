@@ -1,4 +1,4 @@
-// How many sets a cache has, how many lines a set has at most, and how many bytes share a flag.
+/// How many sets a cache has, how many lines a set has at most, and how many bytes share a flag.
 #[derive(Clone, Copy, Debug, PartialEq, Eq)]
 pub struct Settings {
     pub sets: u32,
@@ -6,10 +6,10 @@ pub struct Settings {
     pub granule: u32,
 }
 
-// The bytes of a block.
+/// The bytes of a block.
 pub type BlockBytes = [u8; 16];
 
-// A line of the cache, for a block of 16 bytes. Flag q is that of the granule q; there are 16 / granule of them.
+/// A line of the cache, for a block of 16 bytes. Flag q is that of the granule q; there are 16 / granule of them.
 #[derive(Clone, Copy)]
 pub struct Line {
     pub block: u32,

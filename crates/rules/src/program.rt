@@ -2,7 +2,7 @@ ghost use Rattle.std.specs.Prelude.{◌≡◌, ℕ, ◌^◌, ◌<◌, List};
 ghost use Rattle.std.specs.List.{AllByRecursion};
 ghost use Rattle.rules.specs.Program.{Behaviour, Lawful};
 
-// What a program does next. A quiet step does not access memory.
+/// What a program does next. A quiet step does not access memory.
 #[derive(Clone, Copy, Debug, PartialEq, Eq)]
 pub enum Want {
     Quiet,
@@ -11,7 +11,7 @@ pub enum Want {
     Ended,
 }
 
-// A program, as recorder and player know it: by the numbers of its state and by how states follow one another.
+/// A program, as recorder and player know it: by the numbers of its state and by how states follow one another.
 pub trait Program {
     ghost state: { Self → List ℕ };
 
@@ -20,7 +20,7 @@ pub trait Program {
     fn want(&self) -> Want
         ensures { result ≡ behaviour.want (state self.now) };
 
-    // Goes to the next state by the value that was loaded, or by 0.
+    /// Goes to the next state by the value that was loaded, or by 0.
     fn go(&mut self, value: u64)
         ensures { state self.new ≡ behaviour.next (state self.old) value };
 

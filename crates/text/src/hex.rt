@@ -3,6 +3,8 @@ ghost use Rattle.text.specs.Hex.{digit_of, number_in, digit_char, hex_digits, he
 
 use std::fmt;
 
+/// The value of a digit 0 to 9 or A to F.
+// Not `to_digit`, and below not `from_str_radix`: these take small letters too, and a sign.
 pub fn digit_value(c: u8) -> Option<u64>
     ensures is { result ≡ digit_of c }
     ensures below { IfSome result (λ d. d < 16) }
@@ -14,8 +16,8 @@ pub fn digit_value(c: u8) -> Option<u64>
     }
 }
 
-// The number that a word of 1 to 16 digits 0 to 9 and A to F says, if it is not above `most`.
-// The text of a number is read as that number.
+/// The number that a word of 1 to 16 digits 0 to 9 and A to F says, if it is not above `most`.
+/// The text of a number is read as that number.
 #[tactic(auto, using(crate::proofs::Digits::text_read))]
 pub fn number(word: &[u8], most: u64) -> Option<u64>
     ensures is { result ≡ number_in most word.now }
@@ -31,6 +33,7 @@ pub fn number(word: &[u8], most: u64) -> Option<u64>
     (value <= most).then_some(value)
 }
 
+// Not `from_digit`: it gives small letters.
 fn digit_char(digit: u64) -> char
     requires { digit < 16 }
     ensures { result ≡ digit_char digit }
@@ -39,14 +42,15 @@ fn digit_char(digit: u64) -> char
     char::from(first + digit as u8)
 }
 
-// How many digits a value has, one at least.
+/// How many digits a value has, one at least.
 pub fn width(value: u64) -> u32
     ensures { result ≡ hex_width value }
 {
     value.max(1).ilog(16) + 1
 }
 
-// The `count` lowest digits of a value, highest first; a value has 16.
+/// The `count` lowest digits of a value, highest first; a value has 16.
+// Not `{:X}`: the library says of `{:x}` what it prints, and nothing of `{:X}`.
 #[derive(Clone, Copy)]
 pub struct Digits {
     pub count: u32,
@@ -64,7 +68,7 @@ impl fmt::Display for Digits {
     }
 }
 
-// A value in as many digits as it has.
+/// A value in as many digits as it has.
 #[derive(Clone, Copy)]
 pub struct Hex(pub u64);
 
@@ -80,7 +84,7 @@ impl fmt::Display for Hex {
     }
 }
 
-// Two digits for each byte.
+/// Two digits for each byte.
 #[derive(Clone, Copy)]
 pub struct HexBytes<'a>(pub &'a [u8]);
 

@@ -1,4 +1,4 @@
-// Words, lines and numbers of the texts that the programs read and write.
+//! Words, lines and numbers of the texts that the programs read and write.
 #![tactic(auto)]
 
 pub mod hex;

@@ -2,7 +2,7 @@ ghost use Rattle.std.specs.Prelude.{◌≡◌, ◌+◌, ◌^◌, ◌<◌, length
 
 use crate::words::{Words, up_to};
 
-// The lines of a text. `number` of them were given out.
+/// The lines of a text. `number` of them were given out.
 #[derive(Clone, Copy)]
 pub struct Lines<'a> {
     rest: &'a [u8],
@@ -24,14 +24,14 @@ impl<'a> Lines<'a> {
         }
     }
 
-    // Whether no line is left.
+    /// Whether no line is left.
     pub fn is_empty(&self) -> bool
         ensures { result ≡ no_lines (lines_left self.now) }
     {
         self.rest.is_empty()
     }
 
-    // The words of the next line, or of an empty one past the last.
+    /// The words of the next line, or of an empty one past the last.
     pub fn next_line(&mut self) -> Words<'a>
         ensures answer { words_at result ≡ first_line (lines_left self.old) (lines_given self.old) }
         ensures lines { lines_left self.new ≡ after_first (lines_left self.old) }

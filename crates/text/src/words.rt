@@ -4,7 +4,8 @@ ghost use Rattle.text.specs.Lines.{up_to};
 use crate::hex;
 use crate::place::Place;
 
-// The words of one line, from the index `at` on.
+/// The words of one line, from the index `at` on.
+// A slice with an index into it: the index is the column that a fault tells.
 #[derive(Clone, Copy)]
 pub struct Words<'a> {
     line: &'a [u8],
@@ -31,7 +32,7 @@ impl<'a> Words<'a> {
         }
     }
 
-    // The place at which the next word starts, or should start.
+    /// The place at which the next word starts, or should start.
     pub fn place(&self) -> Place
         ensures { result ≡ next_place (words_at self.now) }
     {
@@ -51,7 +52,7 @@ impl<'a> Words<'a> {
         Ok(up_to(rest, b' '))
     }
 
-    // The next word as a number that is not above `most`.
+    /// The next word as a number that is not above `most`.
     pub fn number(&mut self, most: u64) -> Result<u64, Place>
         ensures answer { result ≡ number_at most (words_at self.old) }
         ensures after { words_at self.new ≡ past (is_ok result) (words_at self.old) }
@@ -62,7 +63,7 @@ impl<'a> Words<'a> {
         Ok(value)
     }
 
-    // The next word as one letter.
+    /// The next word as one letter.
     pub fn letter(&mut self) -> Result<u8, Place>
         ensures answer { result ≡ letter_at (words_at self.old) }
         ensures after { words_at self.new ≡ past (is_ok result) (words_at self.old) }
@@ -75,7 +76,7 @@ impl<'a> Words<'a> {
         Ok(*letter)
     }
 
-    // Whether no word is left.
+    /// Whether no word is left.
     pub fn is_end(&self) -> bool
         ensures { result ≡ is_end (words_at self.now) }
     {
@@ -89,7 +90,7 @@ fn position_of(bytes: &[u8], mark: u8) -> Option<usize>
     bytes.iter().position(|b| *b == mark)
 }
 
-// The bytes before the first mark, or all of them.
+/// The bytes before the first mark, or all of them.
 pub(crate) fn up_to(bytes: &[u8], mark: u8) -> &[u8]
     ensures { result.now ≡ up_to mark bytes.now }
 {
