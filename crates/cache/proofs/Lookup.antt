@@ -1,9 +1,9 @@
 -- A block is found in its set, and comes forward.
-use Rattle.std.proofs.Common.{◌≡◌, ℕ, suc, ◌+◌, ◌-◌, ◌*◌, ◌%◌, ◌<◌, ◌≤◌, false, List, [], ◌∷◌, ◌++◌, map, length, get_or, take, drop, set, vec_items, vec_len, sym, ap, ◌∙◌, subst, ap₂, inl, inr, zero-add, arith, get_or-set_other, get_or-set_same}
+use Rattle.std.proofs.Common.{◌≡◌, ℕ, suc, ◌+◌, ◌-◌, ◌*◌, ◌%◌, ◌<◌, ◌≤◌, false, List, [], ◌∷◌, ◌++◌, map, length, get_or, take, drop, set, vec_items, vec_len, sym, ap, ◌∙◌, subst, ap₂, zero-add, arith, get_or-set_same}
 use Rattle.std.specs.List.{remove}
 use Rattle.std.proofs.lemmas.List.Edits.{length-remove}
-use Rattle.std.proofs.lemmas.List.{length-set, length-map, set-set, get_or-map, map-set, map-append, take-map, drop-map, take_all}
-use Rattle.std.proofs.lemmas.Bool.{cases_eq, eq-eqb}
+use Rattle.std.proofs.lemmas.List.{length-set, length-map, set-set, get_or-map, map-append, take-map, drop-map, take_all}
+use Rattle.std.proofs.lemmas.Bool.{eq-eqb}
 use Rattle.rules.specs.Cache.{holds, less, behind, on_set}
 use Rattle.rules.specs.declared.cache.Line.{Line}
 use Rattle.rules.proofs.Sets.{less_at, less_none}
@@ -51,18 +51,7 @@ module _ {block : ℕ} {c : Cache} {s : ℕ} {r : Recency} (home : IsSetOf block
   set_long = ap length set_is ∙ length-lines_of (table_of c) s r
 
   pub few_used : length (recent r) ≤ (settings_of c).ways
-  few_used = subst (λ xs. length xs ≤ (settings_of c).ways) ways_are (c.few (block % (settings_of c).sets))
-
-  -- no set has more ways in use than the cache allows
-  pub few_kept : (r' : Recency) → length (recent r') ≤ (settings_of c).ways → (t : ℕ) → length (get_or (map recent (set (vec_items c.orders) s r')) t []) ≤ (settings_of c).ways
-  few_kept r' fits t =
-      let rs = vec_items c.orders in
-      let n = (settings_of c).ways in
-      let changed = map-set recent rs s r' in
-      elim (cases_eq t s) [
-        | inl e ↦ subst (λ xs. length xs ≤ n) (sym (ap₂ (λ (ls : List (List ℕ)) (i : ℕ). get_or ls i []) changed e ∙ get_or-set_same (map recent rs) s (recent r') [] (omega (arith, within, length-map rs recent)))) fits
-        | inr ne ↦ subst (λ xs. length xs ≤ n) (sym (ap (λ (ls : List (List ℕ)). get_or ls t []) changed ∙ get_or-set_other (map recent rs) s t (recent r') [] ne)) (c.few t)
-      ]
+  few_used = subst (λ order. length (recent order) ≤ (settings_of c).ways) (sym home.order) (c.few s r within)
 
   pub line_at : (p : ℕ) → p < length (recent r) → get_or (block_set block c) p blank ≡ line_in (table_of c) s (get_or (recent r) p 0)
   line_at p h = ap (λ ls. get_or ls p blank) set_is ∙ get_or-lines_of (table_of c) s r p blank h
