@@ -1,13 +1,13 @@
 -- A block is found in its set, and comes forward.
-use Rattle.std.proofs.Common.{◌≡◌, ℕ, suc, ◌+◌, ◌-◌, ◌*◌, ◌%◌, ◌<◌, ◌≤◌, false, List, [], ◌∷◌, ◌++◌, map, length, get_or, take, drop, set, vec_items, vec_len, sym, ap, ◌∙◌, subst, ap₂, inl, inr, zero-add, arith, get_or-set_other, get_or-set_same}
+use Rattle.std.proofs.Common.{◌≡◌, ℕ, suc, ◌+◌, ◌-◌, ◌*◌, ◌%◌, ◌<◌, ◌≤◌, false, List, [], ◌∷◌, ◌++◌, map, length, get_or, take, drop, set, vec_items, vec_len, sym, ap, ◌∙◌, subst, ap₂, zero-add, arith, get_or-set_same}
 use Rattle.std.specs.List.{remove}
 use Rattle.std.proofs.lemmas.List.Edits.{length-remove}
-use Rattle.std.proofs.lemmas.List.{length-set, length-map, set-set, get_or-map, map-set, map-append, take-map, drop-map, take_all}
-use Rattle.std.proofs.lemmas.Bool.{cases_eq, eq-eqb}
-use Rattle.rules.specs.Cache.{holds, less, behind, on_set}
+use Rattle.std.proofs.lemmas.List.{length-set, length-map, set-set, get_or-map, map-append, take-map, drop-map, take_all}
+use Rattle.std.proofs.lemmas.Bool.{eq-eqb}
+use Rattle.rules.specs.Cache.{holds, less, behind}
 use Rattle.rules.specs.declared.cache.Line.{Line}
 use Rattle.rules.proofs.Sets.{less_at, less_none}
-use Rattle.cache.specs.Lookup.{block_set, ways_of, AbsentBelow, Lies}
+use Rattle.cache.specs.Lookup.{ComesFirst, block_set, ways_of, AbsentBelow, Lies}
 use Rattle.cache.specs.Recency.{recent, to_front}
 use Rattle.cache.specs.View.{settings_of, blank, line_in, lines_of, table_of, sets_from, sets_of}
 use Rattle.cache.specs.declared.recency.Recency.{Recency}
@@ -51,18 +51,7 @@ module _ {block : ℕ} {c : Cache} {s : ℕ} {r : Recency} (home : IsSetOf block
   set_long = ap length set_is ∙ length-lines_of (table_of c) s r
 
   pub few_used : length (recent r) ≤ (settings_of c).ways
-  few_used = subst (λ xs. length xs ≤ (settings_of c).ways) ways_are (c.few (block % (settings_of c).sets))
-
-  -- no set has more ways in use than the cache allows
-  pub few_kept : (r' : Recency) → length (recent r') ≤ (settings_of c).ways → (t : ℕ) → length (get_or (map recent (set (vec_items c.orders) s r')) t []) ≤ (settings_of c).ways
-  few_kept r' fits t =
-      let rs = vec_items c.orders in
-      let n = (settings_of c).ways in
-      let changed = map-set recent rs s r' in
-      elim (cases_eq t s) [
-        | inl e ↦ subst (λ xs. length xs ≤ n) (sym (ap₂ (λ (ls : List (List ℕ)) (i : ℕ). get_or ls i []) changed e ∙ get_or-set_same (map recent rs) s (recent r') [] (omega (arith, within, length-map rs recent)))) fits
-        | inr ne ↦ subst (λ xs. length xs ≤ n) (sym (ap (λ (ls : List (List ℕ)). get_or ls t []) changed ∙ get_or-set_other (map recent rs) s t (recent r') [] ne)) (c.few t)
-      ]
+  few_used = subst (λ order. length (recent order) ≤ (settings_of c).ways) (sym home.order) (c.few s r within)
 
   pub line_at : (p : ℕ) → p < length (recent r) → get_or (block_set block c) p blank ≡ line_in (table_of c) s (get_or (recent r) p 0)
   line_at p h = ap (λ ls. get_or ls p blank) set_is ∙ get_or-lines_of (table_of c) s r p blank h
@@ -85,14 +74,14 @@ module _ {block : ℕ} {c : Cache} {s : ℕ} {r : Recency} (home : IsSetOf block
   absent none i l = let h : i < length (recent r) = omega (arith, set_long) in ap (holds block) (line_at i h) ∙ none i h
 
   -- the ways ws stand behind a way that comes forward
-  comes : (r' : Recency) (w : ℕ) (ws : List ℕ) (l : Line) → recent r' ≡ w ∷ ws → map (line_in (table_of c) s) ws ≡ behind (settings_of c).ways block (block_set block c)
-      → sets_from (set (table_of c) (4 * s + w) l) 0 (set (vec_items c.orders) s r') ≡ on_set (settings_of c) block (λ ls. l ∷ behind (settings_of c).ways block ls) (sets_of c)
-  comes r' w ws l e same =
+  comes : (r' : Recency) (w : ℕ) (ws : List ℕ) → recent r' ≡ w ∷ ws → map (line_in (table_of c) s) ws ≡ behind (settings_of c).ways block (block_set block c)
+      → ComesFirst block c (table_of c) (set (vec_items c.orders) s r') (4 * s + w)
+  comes r' w ws e same l =
       forward_sets (table_of c) (vec_items c.orders) s r' w ws l e within roomy
       ∙ ap₂ (λ (n : ℕ) (ls : List Line). set (sets_of c) n (l ∷ ls)) home.is same
 
-  pub touched : (p slot : ℕ) → Lies block c p slot → (r' : Recency) → recent r' ≡ to_front p (recent r) → (l : Line)
-      → sets_from (set (table_of c) slot l) 0 (set (vec_items c.orders) s r') ≡ on_set (settings_of c) block (λ ls. l ∷ behind (settings_of c).ways block ls) (sets_of c)
+  pub touched : (p slot : ℕ) → Lies block c p slot → (r' : Recency) → recent r' ≡ to_front p (recent r)
+      → ComesFirst block c (table_of c) (set (vec_items c.orders) s r') slot
   touched p slot at r' e l =
       let f = line_in (table_of c) s in
       let ls = block_set block c in
@@ -105,11 +94,11 @@ module _ {block : ℕ} {c : Cache} {s : ℕ} {r : Recency} (home : IsSetOf block
       let short : length (less (holds block) ls) ≤ (settings_of c).ways - 1 =
       omega (arith, ap length (sym moved), length-map (remove (recent r) p) f, length-remove (recent r) p h) in
       ap (λ n. sets_from (set (table_of c) n l) 0 (set (vec_items c.orders) s r')) slot_is
-      ∙ comes r' (get_or (recent r) p 0) (remove (recent r) p) l e (moved ∙ sym (take_all ((settings_of c).ways - 1) (less (holds block) ls) short))
+      ∙ comes r' (get_or (recent r) p 0) (remove (recent r) p) e (moved ∙ sym (take_all ((settings_of c).ways - 1) (less (holds block) ls) short)) l
 
-  pub entered : AbsentBelow block (block_set block c) (length (block_set block c)) → (r' : Recency) (w : ℕ) → recent r' ≡ w ∷ take ((settings_of c).ways - 1) (recent r) → (l : Line)
-      → sets_from (set (table_of c) (4 * s + w) l) 0 (set (vec_items c.orders) s r') ≡ on_set (settings_of c) block (λ ls. l ∷ behind (settings_of c).ways block ls) (sets_of c)
-  entered none r' w e l =
+  pub entered : AbsentBelow block (block_set block c) (length (block_set block c)) → (r' : Recency) (w : ℕ) → recent r' ≡ w ∷ take ((settings_of c).ways - 1) (recent r)
+      → ComesFirst block c (table_of c) (set (vec_items c.orders) s r') (4 * s + w)
+  entered none r' w e =
       let n = (settings_of c).ways - 1 in
-      comes r' w (take n (recent r)) l e
+      comes r' w (take n (recent r)) e
       (sym (take-map (line_in (table_of c) s) n (recent r)) ∙ ap (take n) (sym set_is ∙ sym (less_none (holds block) (block_set block c) blank none)))

@@ -12,17 +12,12 @@ use Rattle.cache.specs.View.{settings_of, blank, table_of, lines_of, sets_from, 
 use Rattle.cache.specs.declared.recency.Recency.{Recency}
 use Rattle.cache.specs.declared.sets.Cache.{Cache}
 use Rattle.cache.proofs.Lookup.{IsSetOf, ways_are, set_is, set_long, roomy}
-use Rattle.cache.proofs.View.{length-sets_from, set_line}
+use Rattle.cache.proofs.View.{set_line}
 
 -- sets that use no way are empty
 pub empty_sets : (lines : List Line) (s n : ℕ) (r : Recency) → recent r ≡ [] → sets_from lines s (replicate n r) ≡ replicate n []
 empty_sets lines s zero r e = refl
 empty_sets lines s (suc n) r e = ap₂ (λ (ls : List Line) (rest : List (List Line)). ls ∷ rest) (ap (map _) e) (empty_sets lines (suc s) n r e)
-
-pub empty_ways : (n t : ℕ) (r : Recency) → recent r ≡ [] → get_or (map recent (replicate n r)) t [] ≡ []
-empty_ways zero t r e = refl
-empty_ways (suc n) zero r e = e
-empty_ways (suc n) (suc t) r e = empty_ways n t r e
 
 -- a line of the table that was found
 pub found_line : (block : ℕ) (c : Cache) (place slot : ℕ) (l : Line) → Lies block c place slot → l ≡ get_or (table_of c) slot l → first (holds block) (block_set block c) ≡ Some l
@@ -38,9 +33,6 @@ some_order (r ∷ rs) (suc s) h = some_order rs s (omega arith)
 
 set_inside : (block : ℕ) (c : Cache) → block % (settings_of c).sets < vec_len c.orders
 set_inside block c = omega (arith, mod_below block (settings_of c).sets (omega (arith, (sets_bounds (settings_of c) c.shape.proper).0)), c.many)
-
-pub sets_inside : (block : ℕ) (c : Cache) → block % (settings_of c).sets < length (sets_of c)
-sets_inside block c = omega (arith, set_inside block c, length-sets_from (table_of c) 0 (vec_items c.orders), c.orders.ok.0)
 
 pub placed_sets : (block : ℕ) (c : Cache) (place slot : ℕ) (w : Line) → Lies block c place slot
     → sets_from (set (table_of c) slot w) 0 (vec_items c.orders) ≡ on_set (settings_of c) block (λ ls. set ls place w) (sets_of c)

@@ -32,10 +32,6 @@ get_or-lines_of lines s r p d h = get_or-map (line_in lines s) (recent r) p 0 d 
 pub length-lines_of : (lines : List Line) (s : ℕ) (r : Recency) → length (lines_of lines s r) ≡ length (recent r)
 length-lines_of lines s r = length-map (recent r) (line_in lines s)
 
-pub length-sets_from : (lines : List Line) (s : ℕ) (rs : List Recency) → length (sets_from lines s rs) ≡ length rs
-length-sets_from lines s [] = refl
-length-sets_from lines s (r ∷ rs) = ap suc (length-sets_from lines (suc s) rs)
-
 pub get_or-sets_from : (lines : List Line) (s : ℕ) (rs : List Recency) (i : ℕ) (r : Recency) → i < length rs → r ≡ get_or rs i r → get_or (sets_from lines s rs) i [] ≡ lines_of lines (s + i) r
 get_or-sets_from lines s [] i r h e = absurd (omega arith)
 get_or-sets_from lines s (q ∷ rs) zero r h e = ap₂ (lines_of lines) (sym (add-zero s)) (sym e)

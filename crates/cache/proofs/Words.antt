@@ -1,7 +1,7 @@
 -- The bytes of a word.
 use Rattle.std.proofs.Common.{◌≡◌, ℕ, zero, suc, ◌+◌, ◌*◌, ◌/◌, ◌%◌, ◌≤◌, List, [], ◌∷◌, ◌++◌, length, take, drop, replicate, refl, ap, ap₂, arith}
 use Rattle.std.proofs.lemmas.List.{drop_all}
-use Rattle.std.specs.Int.{from_le_bytes, w64}
+use Rattle.std.specs.Int.{from_le_bytes, to_le_bytes, w64}
 use Rattle.rules.specs.Bytes.{low_bytes, number_of}
 use Rattle.rules.proofs.Bytes.{number_of-more}
 
@@ -11,8 +11,7 @@ take-low_bytes (suc k) zero n h = absurd (omega arith)
 take-low_bytes (suc k) (suc m) n h = ap (λ bs. n % 256 ∷ bs) (take-low_bytes k m (n / 256) (omega arith))
 
 -- as a word tells its bytes
-pub eight_bytes : (n : ℕ)
-    → (n % 256 ∷ n / 256 % 256 ∷ n / 65536 % 256 ∷ n / 16777216 % 256 ∷ n / 4294967296 % 256 ∷ n / 1099511627776 % 256 ∷ n / 281474976710656 % 256 ∷ n / 72057594037927936 % 256 ∷ []) ≡ low_bytes 8 n
+pub eight_bytes : (n : ℕ) → to_le_bytes w64 n ≡ low_bytes 8 n
 eight_bytes n =
     let m = n / 256 in
     cons refl (cons refl (cons (omega arith) (cons (omega arith) (cons (omega arith) (cons (omega arith) (cons (omega arith) (cons (omega arith) refl)))))))

@@ -1,4 +1,4 @@
--- The settings of a cache, and the sets of lines that it holds.
+-- The settings of a cache, the sets of lines that it holds, and what an operation does to them.
 use Rattle.std.specs.Prelude.{◌≡◌, ℕ, suc, ◌+◌, ◌*◌, List, [], ◌∷◌, map, vec_items, slice_index_or}
 use Rattle.rules.specs.Cache.{new_line, empty_cache, Operation, applied}
 use Rattle.rules.specs.declared.cache.Line.{Line}

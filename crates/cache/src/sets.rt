@@ -1,4 +1,5 @@
-ghost use Rattle.std.specs.Prelude.{◌≡◌, ℕ, ◌*◌, ◌≤◌, [], map, length, vec_len, slice_index_or};
+ghost use Rattle.std.specs.Prelude.{◌≡◌, ◌*◌, ◌≤◌, length, vec_len};
+ghost use Rattle.std.specs.List.{All};
 ghost use Rattle.cache.specs.Recency.{recent};
 
 use crate::recency::Recency;
@@ -16,5 +17,5 @@ pub struct Cache {
     orders: Vec<Recency>,
     ghost many: { vec_len orders ≡ shape.settings.sets },
     ghost room: { vec_len table.lines ≡ 4 * vec_len orders },
-    ghost few: { (s : ℕ) → length (slice_index_or (map recent orders.items) s []) ≤ shape.settings.ways },
+    ghost few: { All (λ order. length (recent order) ≤ shape.settings.ways) orders.items },
 }

@@ -17,12 +17,12 @@ fn shape(sets: u32, ways: u32, granule: u32) -> Option<Shape> {
 }
 
 fn cache(heap: Global, ways: u32, granule: u32) -> Result<Cache, Fail> {
-    let shape = shape(1, ways, granule).ok_or(Fail::new("refused"))?;
+    let shape = shape(1, ways, granule).ok_or_else(|| Fail::new("refused"))?;
     Ok(Cache::new(heap, shape)?)
 }
 
 fn access(address: u32, size: u8) -> Result<Access, Fail> {
-    Access::new(address, size, MEMORY).ok_or(Fail::new("improper"))
+    Access::new(address, size, MEMORY).ok_or_else(|| Fail::new("improper"))
 }
 
 // Loads from a memory whose bytes are all `byte`, and answers whether the load was known.

@@ -1,4 +1,4 @@
-ghost use Rattle.std.specs.Prelude.{◌≡◌, ◌-◌, ◌<◌, ◌≤◌, min, [], ◌∷◌, length, take, slice_index};
+ghost use Rattle.std.specs.Prelude.{◌≡◌, ◌-◌, ◌<◌, ◌≤◌, [], ◌∷◌, length, take, slice_index};
 ghost use Rattle.cache.specs.Recency.{recent, to_front};
 
 use crate::recency::Recency;
@@ -31,18 +31,10 @@ impl Recency {
         requires { place < length (recent self.old) }
         ensures { recent self.new ≡ to_front place (recent self.old) }
     {
+        // A field with facts about it is not lent, so a copy is turned.
         let mut order = self.order;
         order[..=place].rotate_right(1);
         self.order = order;
-    }
-
-    // The place whose way a new line gets: the first free one, or the last where all are in use.
-    fn place_for(&self, ways: u32) -> u8
-        requires some { 1 ≤ ways }
-        requires most { ways ≤ 4 }
-        ensures { result ≡ min self.now.used (ways - 1) }
-    {
-        self.used.min(ways as u8 - 1)
     }
 
     // A way for a new line: a free one, or the last where all `ways` are in use.
@@ -52,7 +44,7 @@ impl Recency {
         requires room { length (recent self.old) ≤ ways }
         ensures { recent self.new ≡ result ∷ take (ways - 1) (recent self.old) }
     {
-        let place = self.place_for(ways);
+        let place = self.used.min(ways as u8 - 1);
         self.used = place + 1;
         self.promote(place as usize);
         self.way(0)

@@ -1,9 +1,10 @@
-use Rattle.std.proofs.Common.{◌≡◌, ℕ, ◌-◌, ◌<◌, ◌≤◌, List, ◌∷◌, length, get_or, take, refl, ap, ◌∙◌, arith, length-take}
+use Rattle.std.proofs.Common.{◌≡◌, ℕ, ◌-◌, ◌<◌, ◌≤◌, List, ◌∷◌, length, get_or, take, vec_items, refl, ap, ◌∙◌, arith, length-take}
+use Rattle.std.proofs.lemmas.List.Elements.{All-set}
 use Rattle.rules.specs.declared.cache.Settings.{Settings}
 use Rattle.rules.proofs.Flags.{sets_bounds, ways_bounds}
 use Rattle.cache.specs.Recency.{recent}
 use Rattle.cache.specs.declared.recency.Recency.{Recency}
-use Rattle.cache.proofs.Lookup.{IsSetOf, few_used, few_kept, entered}
+use Rattle.cache.proofs.Lookup.{IsSetOf, few_used, entered}
 use Rattle.cache.proofs.View.{way_below}
 use Rattle.cache.proofs.sets.Cache.enter.Goals as goal
 
@@ -21,13 +22,10 @@ way_first r w ws e = omega (arith, ap (λ (xs : List ℕ). get_or xs 0 0) e, way
 pub invariant_of-self-clause-few : goal.invariant_of-self-clause-few
 invariant_of-self-clause-few c =
     let self = c.args.self.now in
-    let r = c.index_mut.result.now in
-    let home : IsSetOf c.args.block self c.set_of-set.result c.index_mut.result.now = record { is = c.set_of-set.ensures.is; inside = c.set_of-set.ensures.inside; order = c.index_mut.ensures.value } in
     let ways = ap (λ (k : Settings). k.ways) c.settings-ways.ensures in
-    let bounds = ways_bounds self.shape.settings self.shape.proper in
-    let few : length (recent c.enter.new.self) ≤ self.shape.settings.ways =
-    omega (arith, ap length c.enter.ensures, length-take (c.settings-ways.result.ways - 1) (recent r), ways, bounds.0) in
-    few_kept home c.enter.new.self few
+    let some = (ways_bounds self.shape.settings self.shape.proper).0 in
+    All-set (λ order. length (recent order) ≤ self.shape.settings.ways) (vec_items self.orders) c.set_of-set.result c.enter.new.self
+    (omega (arith, ap length c.enter.ensures, length-take (c.settings-ways.result.ways - 1) (recent c.index_mut.result.now), ways, some)) self.few
 
 pub overflow_add-result : goal.overflow_add-result
 overflow_add-result c =
