@@ -5,7 +5,7 @@ ghost use Rattle.cache.specs.Access.{proper_access};
 
 use crate::stretch::Stretch;
 
-// An access of 1, 2, 4 or 8 bytes at a multiple of as many. It is made only if it also ends within memory.
+/// An access of 1, 2, 4 or 8 bytes at a multiple of as many. It is made only if it also ends within memory.
 #[derive(Clone, Copy)]
 pub struct Access {
     pub(crate) address: u32,
@@ -15,7 +15,7 @@ pub struct Access {
 }
 
 impl Access {
-    // An access to a memory of so many bytes, if it is proper.
+    /// An access to a memory of so many bytes, if it is proper.
     pub fn new(address: u32, size: u8, memory: usize) -> Option<Access>
         ensures { option_map (λ a. (a.address, a.size)) result ≡ proper_access memory address size }
     {
@@ -34,7 +34,7 @@ impl Access {
         self.address / 16
     }
 
-    // The bytes of its block that it takes.
+    /// The bytes of its block that it takes.
     pub(crate) fn stretch(self) -> Stretch
         ensures from { result.from ≡ offset_of self.address }
         ensures size { result.size ≡ self.size }
@@ -46,7 +46,7 @@ impl Access {
     }
 }
 
-// A number of bytes that an access or a granule may have.
+/// A number of bytes that an access or a granule may have.
 pub(crate) fn is_size(n: u32) -> bool
     ensures { result ≡ is_size n }
 {

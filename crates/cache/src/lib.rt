@@ -1,4 +1,4 @@
-// The first-access cache, over a table of lines.
+//! The first-access cache, over a table of lines.
 #![tactic(auto)]
 
 pub mod access;

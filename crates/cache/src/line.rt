@@ -7,7 +7,7 @@ use crate::shape::Shape;
 use crate::stretch::Stretch;
 use rules::cache::{BlockBytes, Line};
 
-// The number in a part of a line, lowest byte first.
+/// The number in a part of a line, lowest byte first.
 pub(crate) fn read(line: &Line, part: Stretch) -> u64
     ensures { result ≡ number_of (stretch part.from part.size line.now.bytes) }
 {
@@ -16,7 +16,7 @@ pub(crate) fn read(line: &Line, part: Stretch) -> u64
     u64::from_le_bytes(bytes)
 }
 
-// Writes the low bytes of a value over a part of a line.
+/// Writes the low bytes of a value over a part of a line.
 pub(crate) fn write(line: &mut Line, part: Stretch, value: u64)
     ensures { line.new ≡ overwritten part.from (low_bytes part.size value) line.old }
 {
@@ -24,33 +24,7 @@ pub(crate) fn write(line: &mut Line, part: Stretch, value: u64)
     line.bytes[part.from..part.from + part.size].copy_from_slice(&bytes[..part.size]);
 }
 
-// Whether every granule that lies whole in a part of a line has its flag.
-pub(crate) fn is_flagged(line: &Line, shape: Shape, part: Stretch) -> bool
-    ensures { result ≡ all_flagged shape.settings.granule part.from part.size 0 line.now.flags }
-{
-    for flag in &line.flags[shape.granules(part)] {
-        if !*flag {
-            return false;
-        }
-    }
-    true
-}
-
-// Flags the granules that lie whole in a part of a line.
-pub(crate) fn flag(line: &mut Line, shape: Shape, part: Stretch)
-    ensures { line.new ≡ flagged_line shape.settings part.from part.size line.old }
-{
-    line.flags[shape.granules(part)].fill(true);
-}
-
-// Whether a load is known by the line of its block.
-pub(crate) fn is_known(line: &Line, shape: Shape, access: Access) -> bool
-    ensures { result ≡ known_by shape.settings access.address access.size (Some line.now) }
-{
-    !line.stale && is_flagged(line, shape, shape.region(access))
-}
-
-// A line that is new for a block.
+/// A line that is new for a block.
 pub(crate) fn new_line(block: u32, fill: &BlockBytes) -> Line
     ensures { result ≡ new_line fill.now block }
 {
@@ -62,7 +36,7 @@ pub(crate) fn new_line(block: u32, fill: &BlockBytes) -> Line
     }
 }
 
-// A stale line takes the fill, and loses its flags and mark.
+/// A stale line takes the fill, and loses its flags and mark.
 pub(crate) fn refresh(line: &mut Line, fill: &BlockBytes)
     ensures { line.new ≡ refreshed fill.now line.old }
 {
@@ -71,27 +45,58 @@ pub(crate) fn refresh(line: &mut Line, fill: &BlockBytes)
     }
 }
 
-// What a load does to the line that has come forward, and the value that it reads.
-pub(crate) fn take_load(line: &mut Line, shape: Shape, access: Access, known: bool) -> u64
-    ensures after { line.new ≡ (if known then (λ l. l) else region_flagged shape.settings access.address access.size) line.old }
-    ensures value { result ≡ read_in access.address access.size line.old }
-{
-    if !known {
-        flag(line, shape, shape.region(access));
-    }
-    read(line, access.stretch())
-}
-
-pub(crate) fn take_store(line: &mut Line, shape: Shape, access: Access, value: u64)
-    ensures { line.new ≡ stored_in shape.settings access.address access.size value line.old }
-{
-    write(line, access.stretch(), value);
-    flag(line, shape, access.stretch());
-}
-
 pub(crate) fn make_stale(line: &mut Line)
     ensures { line.new ≡ staled line.old }
 {
     line.flags = [false; 16];
     line.stale = true;
+}
+
+// What the settings have a say in.
+impl Shape {
+    /// Whether every granule that lies whole in a part of a line has its flag.
+    pub(crate) fn is_flagged(self, line: &Line, part: Stretch) -> bool
+        ensures { result ≡ all_flagged self.settings.granule part.from part.size 0 line.now.flags }
+    {
+        // This loop is a rule of the project; an iterator's `all` would say the same.
+        for flag in &line.flags[self.granules(part)] {
+            if !*flag {
+                return false;
+            }
+        }
+        true
+    }
+
+    /// Flags the granules that lie whole in a part of a line.
+    pub(crate) fn flag(self, line: &mut Line, part: Stretch)
+        ensures { line.new ≡ flagged_line self.settings part.from part.size line.old }
+    {
+        line.flags[self.granules(part)].fill(true);
+    }
+
+    /// Whether a load is known by the line of its block.
+    pub(crate) fn is_known(self, line: &Line, access: Access) -> bool
+        ensures { result ≡ known_by self.settings access.address access.size (Some line.now) }
+    {
+        !line.stale && self.is_flagged(line, self.region(access))
+    }
+
+    /// What a load does to the line that has come forward, and the value that it reads. Whether it is known was asked
+    /// before anything moved.
+    pub(crate) fn take_load(self, line: &mut Line, access: Access, known: bool) -> u64
+        ensures after { line.new ≡ (if known then (λ l. l) else region_flagged self.settings access.address access.size) line.old }
+        ensures value { result ≡ read_in access.address access.size line.old }
+    {
+        if !known {
+            self.flag(line, self.region(access));
+        }
+        read(line, access.stretch())
+    }
+
+    pub(crate) fn take_store(self, line: &mut Line, access: Access, value: u64)
+        ensures { line.new ≡ stored_in self.settings access.address access.size value line.old }
+    {
+        write(line, access.stretch(), value);
+        self.flag(line, access.stretch());
+    }
 }

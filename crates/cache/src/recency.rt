@@ -1,10 +1,9 @@
-ghost use Rattle.std.specs.Prelude.{◌≡◌, ◌<◌, ◌≤◌, ◌≢◌, length};
+ghost use Rattle.std.specs.Prelude.{◌≡◌, ◌≢◌, ◌-◌, ◌<◌, ◌≤◌, [], ◌∷◌, length, take, slice_index};
 ghost use Rattle.std.specs.List.{All, AllPairs};
 
-mod moves;
-
-// The order of use of a set's lines, which lie in four ways. The first `used` of the order are the ways in use, latest
-// use first; the others are free.
+/// The order of use of a set's lines, which lie in four ways. The first `used` of the order are the ways in use, latest
+/// use first; the others are free.
+// An array and a number, not a `Vec`: the memory is fixed, and no call can fail.
 #[derive(Clone, Copy)]
 pub(crate) struct Recency {
     order: [u8; 4],
@@ -13,4 +12,54 @@ pub(crate) struct Recency {
     ghost few: { used ≤ 4 },
     ghost ways: { All (λ way. way < 4) order },
     ghost apart: { AllPairs ◌≢◌ order },
+}
+
+impl Recency {
+    ghost use Rattle.cache.specs.Recency.{recent, to_front};
+
+    pub(crate) fn new() -> Recency
+        ensures { recent result ≡ [] }
+    {
+        Recency {
+            order: [0, 1, 2, 3],
+            used: 0,
+        }
+    }
+
+    pub(crate) fn used(&self) -> usize
+        ensures { result ≡ length (recent self.now) }
+    {
+        self.used as usize
+    }
+
+    /// The way at a place of the order of use.
+    pub(crate) fn way(&self, place: usize) -> usize
+        requires { place < length (recent self.now) }
+        ensures { result ≡ slice_index (recent self.now) place }
+    {
+        self.order[place] as usize
+    }
+
+    pub(crate) fn promote(&mut self, place: usize)
+        requires { place < length (recent self.old) }
+        ensures { recent self.new ≡ to_front place (recent self.old) }
+    {
+        // A field with facts about it is not lent, so a copy is turned.
+        let mut order = self.order;
+        order[..=place].rotate_right(1);
+        self.order = order;
+    }
+
+    /// A way for a new line: a free one, or the last where all `ways` are in use.
+    pub(crate) fn enter(&mut self, ways: u32) -> usize
+        requires some { 1 ≤ ways }
+        requires most { ways ≤ 4 }
+        requires room { length (recent self.old) ≤ ways }
+        ensures { recent self.new ≡ result ∷ take (ways - 1) (recent self.old) }
+    {
+        let place = self.used.min(ways as u8 - 1);
+        self.used = place + 1;
+        self.promote(place as usize);
+        self.way(0)
+    }
 }

@@ -8,7 +8,7 @@ use crate::stretch::Stretch;
 use rules::cache::Settings;
 use std::ops::Range;
 
-// Settings that a cache can have: 1, 2, 4, 8 or 16 sets of at most 1, 2 or 4 lines, and granules of 1, 2, 4 or 8 bytes.
+/// Settings that a cache can have: 1, 2, 4, 8 or 16 sets of at most 1, 2 or 4 lines, and granules of 1, 2, 4 or 8 bytes.
 #[derive(Clone, Copy)]
 pub struct Shape {
     settings: Settings,
@@ -31,7 +31,7 @@ impl Shape {
         self.settings
     }
 
-    // The aligned stretch of max(size, granule) bytes that holds an access.
+    /// The aligned stretch of max(size, granule) bytes that holds an access.
     pub(crate) fn region(self, access: Access) -> Stretch
         ensures from { result.from ≡ region_from self.settings access.address access.size }
         ensures size { result.size ≡ region_size self.settings access.size }
@@ -50,7 +50,7 @@ impl Shape {
         u32::from(access.size).max(self.settings.granule) as usize
     }
 
-    // The granules that lie whole in a stretch.
+    /// The granules that lie whole in a stretch.
     pub(crate) fn granules(self, part: Stretch) -> Range<usize>
         ensures whole { (q : ℕ) → within self.settings.granule part.from part.size q ≡ (nat_le result.start q && nat_lt q result.end) }
         ensures order { result.start ≤ result.end }

@@ -1,6 +1,6 @@
 ghost use Rattle.std.specs.Prelude.{◌+◌, ◌≤◌};
 
-// Up to 8 bytes of a block, from a place in it on.
+/// Up to 8 bytes of a block, from a place in it on.
 #[derive(Clone, Copy)]
 pub(crate) struct Stretch {
     pub(crate) from: usize,

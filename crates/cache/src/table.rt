@@ -6,7 +6,9 @@ ghost use Rattle.rules.specs.contracts.cache.Line.{the_row as line_row};
 
 use rules::cache::Line;
 
-// The lines of all sets: way w of the set s lies at 4 s + w.
+/// The lines of all sets: way w of the set s lies at 4 s + w.
+// A plain table with the orders of use beside it, not a list of sets: that one line of it is lent is a rule of the
+// project, and what an order is made of is known to `Recency` alone.
 #[derive(Drop)]
 pub(crate) struct Table {
     pub(crate) lines: Vec<Line>,
@@ -20,7 +22,7 @@ impl Table {
         &self.lines[slot]
     }
 
-    // Lends one line to be changed.
+    /// Lends one line to be changed.
     pub(crate) fn line_mut(&mut self, slot: usize) -> &mut Line
         requires { slot < vec_len self.old.lines }
         ensures* follows { sem 𝓛 (follows table_row line_row self.entry.ghost_name result.ghost_name (λ w. record { lines = with_item self.old.lines slot w })) }

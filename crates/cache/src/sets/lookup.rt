@@ -8,7 +8,7 @@ use crate::line::{new_line, refresh};
 use crate::sets::Cache;
 use rules::cache::{BlockBytes, Line};
 
-// A line's place in the order of use of its set, and its slot in the table.
+/// A line's place in the order of use of its set, and its slot in the table.
 #[derive(Clone, Copy)]
 pub(crate) struct Found {
     pub(crate) place: usize,
@@ -57,7 +57,7 @@ impl Cache {
         4 * set + self.orders[set].enter(ways)
     }
 
-    // The block's line comes forward, filled if it has to be. The answer is its slot.
+    /// The block's line comes forward, filled if it has to be. The answer is its slot.
     pub(crate) fn bring_forward(&mut self, block: u32, fill: &BlockBytes) -> usize
         ensures { Brings block fill.now self.old self.new result }
     {

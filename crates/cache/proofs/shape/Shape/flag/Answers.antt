@@ -3,7 +3,7 @@ use Rattle.std.proofs.lemmas.List.{length-replicate}
 use Rattle.rules.specs.declared.cache.Line.{Line}
 use Rattle.cache.proofs.Granules.{flagged_granules}
 use Rattle.cache.proofs.Parts.{part_written}
-use Rattle.cache.proofs.line.flag.Goals as goal
+use Rattle.cache.proofs.shape.Shape.flag.Goals as goal
 
 pub returns : goal.returns
 returns c =
@@ -12,4 +12,4 @@ returns c =
     let part = c.args.part in
     ap (λ fs. let m : Line = record { block = l.block; bytes = l.bytes; flags = fs; stale = l.stale } in m)
     (part_written r.start (r.end - r.start) l.flags c.fill.new.self _ (c.fill.ensures.after (λ y e. e)) (length-replicate _ true ∙ simp (length-take, length-drop) (omega (arith, c.granules.ensures.most)))
-    ∙ sym (flagged_granules c.args.shape.settings.granule part.from part.size r.start r.end c.granules.ensures.whole l.flags (omega (arith, c.granules.ensures.most)) c.granules.ensures.order))
+    ∙ sym (flagged_granules c.args.self.settings.granule part.from part.size r.start r.end c.granules.ensures.whole l.flags (omega (arith, c.granules.ensures.most)) c.granules.ensures.order))
