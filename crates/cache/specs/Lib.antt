@@ -1,4 +1,5 @@
 pub mod Access
 pub mod Lookup
 pub mod Recency
+pub mod Table
 pub mod View

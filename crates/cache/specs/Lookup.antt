@@ -6,7 +6,7 @@ use Rattle.cache.specs.Recency.{recent}
 use Rattle.cache.specs.View.{settings_of, blank, table_of, sets_from, sets_of}
 use Rattle.cache.specs.declared.recency.Recency.{Recency}
 use Rattle.cache.specs.declared.sets.Cache.{Cache}
-use Rattle.cache.specs.declared.sets.lookup.Found.{Found}
+use Rattle.cache.specs.declared.sets.Found.{Found}
 
 -- no line at a place below n holds the block
 abbrev pub AbsentBelow : ℕ → List Line → ℕ → Type 0

@@ -22,7 +22,7 @@ impl Access {
         if !is_size(u32::from(size)) || address % u32::from(size) != 0 {
             return None;
         }
-        if address as usize + size as usize > memory {
+        if address as usize + usize::from(size) > memory {
             return None;
         }
         Some(Access { address, size })
@@ -41,7 +41,7 @@ impl Access {
     {
         Stretch {
             from: (self.address % 16) as usize,
-            size: self.size as usize,
+            size: usize::from(self.size),
         }
     }
 }

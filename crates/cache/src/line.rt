@@ -12,7 +12,7 @@ pub(crate) fn read(line: &Line, part: Stretch) -> u64
     ensures { result ≡ number_of (stretch part.from part.size line.now.bytes) }
 {
     let mut bytes = [0; 8];
-    bytes[..part.size].copy_from_slice(&line.bytes[part.from..part.from + part.size]);
+    bytes[..part.size].copy_from_slice(&line.bytes[part.range()]);
     u64::from_le_bytes(bytes)
 }
 
@@ -21,7 +21,7 @@ pub(crate) fn write(line: &mut Line, part: Stretch, value: u64)
     ensures { line.new ≡ overwritten part.from (low_bytes part.size value) line.old }
 {
     let bytes = value.to_le_bytes();
-    line.bytes[part.from..part.from + part.size].copy_from_slice(&bytes[..part.size]);
+    line.bytes[part.range()].copy_from_slice(&bytes[..part.size]);
 }
 
 /// A line that is new for a block.
@@ -52,15 +52,15 @@ pub(crate) fn make_stale(line: &mut Line)
     line.stale = true;
 }
 
-// What the settings have a say in.
+// What the settings have a say in. It stands here, since these are things done to a line.
 impl Shape {
     /// Whether every granule that lies whole in a part of a line has its flag.
     pub(crate) fn is_flagged(self, line: &Line, part: Stretch) -> bool
         ensures { result ≡ all_flagged self.settings.granule part.from part.size 0 line.now.flags }
     {
         // This loop is a rule of the project; an iterator's `all` would say the same.
-        for flag in &line.flags[self.granules(part)] {
-            if !*flag {
+        for &flag in &line.flags[self.granules(part)] {
+            if !flag {
                 return false;
             }
         }

@@ -3,7 +3,7 @@ ghost use Rattle.std.specs.List.{All, AllPairs};
 
 /// The order of use of a set's lines, which lie in four ways. The first `used` of the order are the ways in use, latest
 /// use first; the others are free.
-// An array and a number, not a `Vec`: the memory is fixed, and no call can fail.
+// Four ways always, of which the first `used` are in use: no `Vec`, since memory is fixed and no call can fail.
 #[derive(Clone, Copy)]
 pub(crate) struct Recency {
     order: [u8; 4],
@@ -29,7 +29,7 @@ impl Recency {
     pub(crate) fn used(&self) -> usize
         ensures { result ≡ length (recent self.now) }
     {
-        self.used as usize
+        usize::from(self.used)
     }
 
     /// The way at a place of the order of use.
@@ -37,7 +37,7 @@ impl Recency {
         requires { place < length (recent self.now) }
         ensures { result ≡ slice_index (recent self.now) place }
     {
-        self.order[place] as usize
+        usize::from(self.order[place])
     }
 
     pub(crate) fn promote(&mut self, place: usize)
@@ -59,7 +59,7 @@ impl Recency {
     {
         let place = self.used.min(ways as u8 - 1);
         self.used = place + 1;
-        self.promote(place as usize);
+        self.promote(usize::from(place));
         self.way(0)
     }
 }

@@ -1,8 +1,5 @@
 ghost use Rattle.std.specs.Prelude.{◌≡◌, ◌<◌, vec_len, slice_index_or};
-ghost use Rattle.std.specs.Borrow.{sem, follows};
-ghost use Rattle.std.specs.Vec.{with_item};
-ghost use Rattle.cache.specs.contracts.table.Table.{the_row as table_row};
-ghost use Rattle.rules.specs.contracts.cache.Line.{the_row as line_row};
+ghost use Rattle.std.specs.Borrow.{sem};
 
 use rules::cache::Line;
 
@@ -15,6 +12,8 @@ pub(crate) struct Table {
 }
 
 impl Table {
+    ghost use Rattle.cache.specs.Table.{LendsLine};
+
     pub(crate) fn line(&self, slot: usize) -> &Line
         requires { slot < vec_len self.now.lines }
         ensures { result.now ≡ slice_index_or self.now.lines.items slot result.now }
@@ -25,7 +24,7 @@ impl Table {
     /// Lends one line to be changed.
     pub(crate) fn line_mut(&mut self, slot: usize) -> &mut Line
         requires { slot < vec_len self.old.lines }
-        ensures* follows { sem 𝓛 (follows table_row line_row self.entry.ghost_name result.ghost_name (λ w. record { lines = with_item self.old.lines slot w })) }
+        ensures* follows { sem 𝓛 (LendsLine self.entry slot result) }
         ensures value { result.now ≡ slice_index_or self.old.lines.items slot result.now }
     {
         &mut self.lines[slot]

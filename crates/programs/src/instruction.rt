@@ -4,7 +4,7 @@ ghost use Rattle.programs.specs.Instruction.{size_bytes, op_numbered, instructio
 use crate::register::Register;
 
 /// How many bytes a load or a store moves.
-#[derive(Clone, Copy)]
+#[derive(Clone, Copy, Debug, PartialEq, Eq)]
 pub enum Size {
     One,
     Two,
@@ -26,17 +26,12 @@ impl Size {
     pub(crate) fn low(self, value: u64) -> u32
         ensures { result ≡ value % 256 ^ size_bytes self }
     {
-        let low = match self {
-            Size::One => value % 0x100,
-            Size::Two => value % 0x1_0000,
-            Size::Four => value % 0x1_0000_0000,
-        };
-        low as u32
+        (value % (1 << (8 * self.bytes()))) as u32
     }
 }
 
 /// What a word does. `Other` is every op but 1 to 10, and ends the program.
-#[derive(Clone, Copy)]
+#[derive(Clone, Copy, Debug, PartialEq, Eq)]
 pub enum Op {
     Constant,
     AddConstant,
@@ -67,7 +62,7 @@ impl From<u32> for Op {
     }
 }
 
-/// A word taken apart: `k` is below 2^16.
+/// A word taken apart: as decoded, `k` is below 2^16.
 #[derive(Clone, Copy)]
 pub struct Instruction {
     pub op: Op,
@@ -82,8 +77,8 @@ impl From<u32> for Instruction {
     fn from(word: u32) -> Instruction {
         Instruction {
             op: Op::from(word >> 28),
-            d: Register::from_bits(word >> 24),
-            s: Register::from_bits(word >> 20),
+            d: Register::from(word >> 24),
+            s: Register::from(word >> 20),
             k: word % 0x1_0000,
         }
     }

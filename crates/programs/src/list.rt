@@ -14,7 +14,7 @@ const LOAD: u8 = 1;
 
 const STORE: u8 = 2;
 
-/// A load or a store; a list ends at an access of any other kind.
+/// Kind 1 is a load and kind 2 a store; a list ends at an access of any other kind.
 #[derive(Clone, Copy)]
 pub struct ListedAccess {
     // No enum: the state tells each kind's number, and a case for the others would have to leave out 1 and 2.
@@ -24,6 +24,7 @@ pub struct ListedAccess {
     pub value: u64,
 }
 
+// Kind 0 is neither, so being past the last access needs no case of its own.
 const PAST: ListedAccess = ListedAccess {
     kind: 0,
     address: 0,
@@ -51,9 +52,10 @@ impl AccessList {
         ensures made { Makes (length accesses.now) (list_state 0 0 accesses.now) (on_ok state_of result) }
         ensures runs { ListRuns accesses.now }
     {
-        holds_numbers(accesses);
+        let accesses = copied(heap, accesses)?;
+        holds_numbers(accesses.as_slice());
         Ok(AccessList {
-            accesses: copied(heap, accesses)?,
+            accesses,
             place: 0,
             last: 0,
         })
@@ -107,7 +109,8 @@ impl Program for AccessList {
     }
 }
 
-// Does nothing at run time: a proof knows that numbers of an access are below 2^64 only where the access is used.
+// Changes nothing: a proof knows that the numbers of an access are below 2^64 only where that access is used. Tried without:
+// the elements of a slice of structs have no ranges of their own.
 #[tactic(auto, using(crate::proofs::Numbers::below_more))]
 fn holds_numbers(accesses: &[ListedAccess])
     ensures { All (λ n. n < 2 ^ 64) (flat_map numbers_of accesses.now) }

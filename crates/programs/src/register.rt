@@ -18,16 +18,18 @@ impl Model for Register {
     ghost inverse = { λ n. record { number = n } };
 }
 
-impl Register {
-    /// The low three bits.
-    pub(crate) fn from_bits(bits: u32) -> Register
-        ensures { result ≡ bits % 8 }
-    {
+/// The low three bits.
+impl From<u32> for Register {
+    ghost from_gives = { λ bits r. r ≡ bits % 8 };
+
+    fn from(bits: u32) -> Register {
         Register {
             number: bits as usize % 8,
         }
     }
+}
 
+impl Register {
     pub(crate) fn number(self) -> usize
         ensures value { result ≡ self }
         ensures within { result < 8 }

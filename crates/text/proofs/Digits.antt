@@ -13,7 +13,6 @@ sixteen (suc k) = omega (arith, sixteen k, pow-succ' 16 k, ap (λ n. 2 ^ n) (fou
     four : (k : ℕ) → 4 * suc k ≡ 4 + 4 * k
     four k = omega arith
 
--- the next digit, and those after it
 positive : (k : ℕ) → 0 < 16 ^ k
 positive k = omega (arith, sixteen k, pow_pos (4 * k))
 

@@ -1,12 +1,12 @@
 -- A text's lines and words. Lines end in a line feed, which the last may lack; words are split by single spaces.
-use Rattle.std.specs.Prelude.{ℕ, ◌+◌, Bool, true, false, cond, not, List, [], ◌∷◌, length, drop, Some, None, Ok, Err, Option, Result, ◌==◌, nat_le}
+use Rattle.std.specs.Prelude.{◌≡◌, ℕ, ◌+◌, Bool, true, false, not, if◌then◌else◌, List, [], ◌∷◌, length, drop, Some, None, Ok, Err, Option, Result, is_ok, ◌==◌, nat_le}
 use Rattle.text.specs.declared.place.Place.{Place}
 use Rattle.text.specs.Hex.{number_in}
 
 -- the bytes before the first that is the mark
 abbrev pub up_to : ℕ → List ℕ → List ℕ
 up_to mark [] = []
-up_to mark (c ∷ cs) = cond (c == mark) [] (c ∷ up_to mark cs)
+up_to mark (c ∷ cs) = if c == mark then [] else (c ∷ up_to mark cs)
 
 -- a byte in front of the first line
 abbrev pub onto : ℕ → List (List ℕ) → List (List ℕ)
@@ -16,7 +16,7 @@ onto c (l ∷ ls) = (c ∷ l) ∷ ls
 -- the lines of a text
 abbrev pub lines_of : List ℕ → List (List ℕ)
 lines_of [] = []
-lines_of (c ∷ cs) = cond (c == 10) ([] ∷ lines_of cs) (onto c (lines_of cs))
+lines_of (c ∷ cs) = if c == 10 then ([] ∷ lines_of cs) else onto c (lines_of cs)
 
 -- a line, its number, and the index in it at which the next word starts
 pub record Cursor : Type 0 where
@@ -73,9 +73,8 @@ or_bad place None = Err place
 
 -- the number at the cursor, or the place of what is no number or missing
 abbrev pub number_at : ℕ → Cursor → Result ℕ Place
-number_at most c = cond (there c.line c.at)
-    (or_bad (next_place c) (number_in most (word_at c.line c.at)))
-    (Err (next_place c))
+number_at most c =
+    if there c.line c.at then or_bad (next_place c) (number_in most (word_at c.line c.at)) else Err (next_place c)
 
 -- the byte of a word that has just one
 abbrev pub letter_of : List ℕ → Option ℕ
@@ -85,9 +84,8 @@ letter_of (c ∷ d ∷ cs) = None
 
 -- the one letter at the cursor, or the place of what is no letter or missing
 abbrev pub letter_at : Cursor → Result ℕ Place
-letter_at c = cond (there c.line c.at)
-    (or_bad (next_place c) (letter_of (word_at c.line c.at)))
-    (Err (next_place c))
+letter_at c =
+    if there c.line c.at then or_bad (next_place c) (letter_of (word_at c.line c.at)) else Err (next_place c)
 
 -- no word is left
 abbrev pub is_end : Cursor → Bool
@@ -95,4 +93,9 @@ is_end c = not (there c.line c.at)
 
 -- the cursor past a word that was taken, or where it was
 abbrev pub past : Bool → Cursor → Cursor
-past taken c = cursor c.line c.number (cond taken (next_at c.line c.at) c.at)
+past taken c = cursor c.line c.number (if taken then next_at c.line c.at else c.at)
+
+-- a word is taken: the answer is what is read at the cursor, which then stands past the word, if there was one
+pub record Takes {A : Type 0} (read : Cursor → Result A Place) (before after : Cursor) (answer : Result A Place) : Type 0 where
+  pub reads : answer ≡ read before
+  pub moves : after ≡ past (is_ok answer) before

@@ -27,18 +27,18 @@ pub fn number(word: &[u8], most: u64) -> Option<u64>
         return None;
     }
     let mut value: u64 = 0;
-    for c in word {
-        value = 16 * value + digit_value(*c)?;
+    for &c in word {
+        value = 16 * value + digit_value(c)?;
     }
     (value <= most).then_some(value)
 }
 
-// Not `from_digit`: it gives small letters.
+// Not `from_digit`: it gives small letters, and an `Option`.
 fn digit_char(digit: u64) -> char
     requires { digit < 16 }
     ensures { result ≡ digit_char digit }
 {
-    let first = if digit < 10 { 48 } else { 55 };
+    let first = if digit < 10 { b'0' } else { b'A' - 10 };
     char::from(first + digit as u8)
 }
 
@@ -50,7 +50,7 @@ pub fn width(value: u64) -> u32
 }
 
 /// The `count` lowest digits of a value, highest first; a value has 16.
-// Not `{:X}`: the library says of `{:x}` what it prints, and nothing of `{:X}`.
+// Not `{:X}`: it cuts no number to so many digits. With this, `Hex` and `HexBytes` are one call each.
 #[derive(Clone, Copy)]
 pub struct Digits {
     pub count: u32,
@@ -92,10 +92,10 @@ impl fmt::Display for HexBytes<'_> {
     ghost output = { λ b. Some (hex_bytes b.0.now) };
 
     fn fmt<W: fmt::Write>(&self, f: &mut fmt::Formatter<W>) -> fmt::Result {
-        for byte in self.0 {
+        for &byte in self.0 {
             f.write(Digits {
                 count: 2,
-                value: u64::from(*byte),
+                value: u64::from(byte),
             })?;
         }
         Ok(())

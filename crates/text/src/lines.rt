@@ -3,6 +3,7 @@ ghost use Rattle.std.specs.Prelude.{◌≡◌, ◌+◌, ◌^◌, ◌<◌, length
 use crate::words::{Words, up_to};
 
 /// The lines of a text. `number` of them were given out.
+// Views say what it stands for, as with `Words`.
 #[derive(Clone, Copy)]
 pub struct Lines<'a> {
     rest: &'a [u8],

@@ -1,11 +1,12 @@
-ghost use Rattle.std.specs.Prelude.{◌≡◌, ◌+◌, ◌^◌, ◌<◌, ◌≤◌, length, is_ok, MatchResult, position, ◌==◌};
+ghost use Rattle.std.specs.Prelude.{◌≡◌, ◌+◌, ◌^◌, ◌<◌, ◌≤◌, length, MatchResult, position, ◌==◌};
 ghost use Rattle.text.specs.Lines.{up_to};
 
 use crate::hex;
 use crate::place::Place;
 
 /// The words of one line, from the index `at` on.
-// A slice with an index into it: the index is the column that a fault tells.
+// A slice with an index into it: the index is the column that a fault tells. It is `Copy`, which a type with a lifetime and
+// a model can't be; so views in specs/ say what it stands for.
 #[derive(Clone, Copy)]
 pub struct Words<'a> {
     line: &'a [u8],
@@ -17,7 +18,7 @@ pub struct Words<'a> {
 }
 
 impl<'a> Words<'a> {
-    ghost use Rattle.text.specs.Lines.{cursor, next_place, word_at, number_at, letter_at, is_end, past};
+    ghost use Rattle.text.specs.Lines.{cursor, next_place, word_at, number_at, letter_at, is_end, Takes};
     ghost use Rattle.text.specs.Views.{words_at};
 
     pub(crate) fn new(line: &'a [u8], number: usize) -> Words<'a>
@@ -54,8 +55,7 @@ impl<'a> Words<'a> {
 
     /// The next word as a number that is not above `most`.
     pub fn number(&mut self, most: u64) -> Result<u64, Place>
-        ensures answer { result ≡ number_at most (words_at self.old) }
-        ensures after { words_at self.new ≡ past (is_ok result) (words_at self.old) }
+        ensures { Takes (number_at most) (words_at self.old) (words_at self.new) result }
     {
         let word = self.word()?;
         let value = hex::number(word, most).ok_or(self.place())?;
@@ -65,8 +65,7 @@ impl<'a> Words<'a> {
 
     /// The next word as one letter.
     pub fn letter(&mut self) -> Result<u8, Place>
-        ensures answer { result ≡ letter_at (words_at self.old) }
-        ensures after { words_at self.new ≡ past (is_ok result) (words_at self.old) }
+        ensures { Takes letter_at (words_at self.old) (words_at self.new) result }
     {
         let word = self.word()?;
         let [letter] = word else {
