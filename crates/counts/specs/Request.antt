@@ -1,5 +1,5 @@
 -- What the input of `counts` asks for: a code on the first line, and then one count to a line.
-use Rattle.std.specs.Prelude.{◌≡◌, ℕ, ◌-◌, ◌^◌, true, cond, List, [], ◌∷◌, ◌++◌, Ok, Err, vec_items, Result, Vec, ◌==◌}
+use Rattle.std.specs.Prelude.{◌≡◌, ℕ, ◌-◌, ◌^◌, true, List, [], ◌∷◌, ◌++◌, Ok, Err, vec_items, Result, Vec, ◌==◌, if◌then◌else◌}
 use Rattle.std.specs.declared.alloc.Global.{Global}
 use Rattle.text.specs.Lines.{Cursor, cursors, lines_of, first_line, after_first, number_after, next_place, number_at, letter_at, is_end, past}
 use Rattle.text.specs.declared.place.Place.{Place}
@@ -15,7 +15,7 @@ with_number most c goes = elim (number_at most c) [ Ok n ↦ goes n (past true c
 
 -- no word may be left
 abbrev pub ended : {A : Type 0} → A → Cursor → Result A Place
-ended a c = cond (is_end c) (Ok a) (Err (next_place c))
+ended a c = if is_end c then Ok a else Err (next_place c)
 
 abbrev pub chunked_asked : Cursor → Result CodeAsked Place
 chunked_asked c = with_number (2 ^ 32 - 1) c (λ first c'. with_number (2 ^ 32 - 1) c' (λ later. ended (Chunked first later)))
@@ -26,7 +26,8 @@ fixed_asked c = with_number (2 ^ 32 - 1) c (λ width. ended (Fixed width))
 -- `K` and two lengths, or `F` and a width
 abbrev pub code_asked : Cursor → Result CodeAsked Place
 code_asked c = elim (letter_at c) [
-  | Ok l ↦ cond (l == 75) (chunked_asked (past true c)) (cond (l == 70) (fixed_asked (past true c)) (Err (next_place c)))
+  | Ok l ↦ if l == 75 then chunked_asked (past true c)
+      else (if l == 70 then fixed_asked (past true c) else Err (next_place c))
   | Err p ↦ Err p
 ]
 
