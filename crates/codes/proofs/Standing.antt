@@ -1,5 +1,5 @@
 -- Counts that stand one after the other in a buffer, and how they are read back.
-use Rattle.std.proofs.Common.{Result, get_or, ◌<◌, ◌≡◌, ℕ, ◌+◌, ◌≤◌, List, [], ◌∷◌, ◌++◌, length, take, drop, Some, Ok, Err, sym, refl, ap, ◌∙◌, subst, append_assoc, arith, length-append, take-append-drop, length-take-le, drop-drop, drop_at}
+use Rattle.std.proofs.Common.{Result, get_or, ◌<◌, ◌≡◌, ℕ, ◌+◌, ◌≤◌, List, [], ◌∷◌, ◌++◌, length, take, drop, Ok, Err, sym, refl, ap, ◌∙◌, subst, append_assoc, arith, length-append, take-append-drop, length-take-le, drop-drop, drop_at}
 use lib.Seq.{drop-append-le}
 use Rattle.std.proofs.ByRecursion.{All-push}
 use Rattle.std.proofs.lemmas.List.{flat_map_more, drop_more, take_more, drop-take}
@@ -9,7 +9,7 @@ use Rattle.rules.specs.Bits.{bits_in}
 use Rattle.rules.specs.Calls.{answer_of, write_answer, bytes_written, read_answer}
 use Rattle.rules.specs.Meaning.{Meaning, Sound, number}
 use Rattle.rules.proofs.Calls.{wrote, refused_same}
-use Rattle.codes.specs.Series.{series_from, series_bytes, ReadBack}
+use Rattle.codes.specs.Series.{series_by, series_from, bytes_by, series_bytes, ReadBack}
 
 -- the bits of the counts fill the buffer from the place to `end`
 pub record Stands (m : Meaning) (ns : List ℕ) (place end : ℕ) (bytes : List ℕ) : Type 0 where
@@ -61,13 +61,13 @@ module _ (m : Meaning) (numbers bytes bytes' : List ℕ) (written place next nex
   pub series_goes : series_from m (written + 1) (drop (written + 1) numbers) next' bytes' ≡ series_from m written (drop written numbers) next bytes
   series_goes =
       ap (series_from m (written + 1) (drop (written + 1) numbers) next') is
-      ∙ sym (ap (λ r. elim r [ Ok k ↦ series_from m (written + 1) (drop (written + 1) numbers) k (bytes_written m (get_or numbers written 0) next bytes) | Err x ↦ record { written = written; next = next; refusal = Some x } ]) answer)
+      ∙ sym (ap (λ r. series_by written next r (λ k. series_from m (written + 1) (drop (written + 1) numbers) k (bytes_written m (get_or numbers written 0) next bytes))) answer)
       ∙ ap (λ ns. series_from m written ns next bytes) (sym begins)
 
   pub bytes_go : series_bytes m (drop (written + 1) numbers) next' bytes' ≡ series_bytes m (drop written numbers) next bytes
   bytes_go =
       ap (series_bytes m (drop (written + 1) numbers) next') is
-      ∙ sym (ap (λ r. elim r [ Ok k ↦ series_bytes m (drop (written + 1) numbers) k (bytes_written m (get_or numbers written 0) next bytes) | Err x ↦ bytes ]) answer)
+      ∙ sym (ap (λ r. bytes_by bytes r (λ k. series_bytes m (drop (written + 1) numbers) k (bytes_written m (get_or numbers written 0) next bytes))) answer)
       ∙ ap (λ ns. series_bytes m ns next bytes) (sym begins)
 
   pub stands_on : Stands m (take written numbers) place next bytes → Stands m (take (written + 1) numbers) place next' bytes'

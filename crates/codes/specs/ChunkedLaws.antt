@@ -1,5 +1,5 @@
 -- The chunked code keeps the laws.
-use Rattle.std.specs.Prelude.{◌≡◌, ℕ, zero, suc, ◌+◌, ◌-◌, ◌*◌, ◌/◌, ◌%◌, ◌^◌, ◌<◌, ◌≤◌, Bool, true, false, cond, ◌&&◌, ◌⊎◌, List, [], ◌∷◌, ◌++◌, length, get_or, take, drop, ◌==◌, ◌≢◌, nat_le, nat_lt, slice_index_or, refl}
+use Rattle.std.specs.Prelude.{◌≡◌, ℕ, zero, suc, ◌+◌, ◌-◌, ◌*◌, ◌/◌, ◌%◌, ◌^◌, ◌<◌, ◌≤◌, Bool, true, false, ◌&&◌, ◌⊎◌, List, [], ◌∷◌, ◌++◌, length, take, drop, ◌==◌, ◌≢◌, if◌then◌else◌, nat_le, nat_lt, slice_index_or, refl}
 use mathlib.Core.List.{append_assoc}
 use Rattle.std.proofs.Common.{inl, inr, subst, ◌∙◌, div-add-mod', mul-le-mul_right, arith, length-take, take-append-drop, pow_mono, pow-add, drop-drop, length-take-le, drop_at}
 use Rattle.std.proofs.Math.Path.{sym, ap, ap₂}
@@ -36,7 +36,7 @@ module _ (turns later w seen value used : ℕ) where
       let bs = group ++ (connect ∷ rest) in
       let enough : w + 1 ≤ length bs = omega (arith, length-append group (connect ∷ rest)) in
       let front : take w bs ≡ group = take_at group (connect ∷ rest) w long in
-      let link : get_or bs w false ≡ connect = get_or_at group connect rest false w long in
+      let link : slice_index_or bs w false ≡ connect = get_or_at group connect rest false w long in
       let back : drop (w + 1) bs ≡ rest = sym (drop-drop 1 w bs) ∙ ap (drop 1) (drop_at group (connect ∷ rest) w long) in
       cond-true (nat_le (w + 1) (length bs)) _ _ (le-leb (w + 1) (length bs) enough) ∙ (λ i. after turns later w seen value used (front i) (link i) (back i))
 
@@ -80,7 +80,7 @@ module _ (n w seen value : ℕ) (fits : value + n * 2 ^ seen ≤ greatest) where
 module _ (turns later w n : ℕ) where
   -- what follows the first group and its connect bit
   abbrev pub tail : Bool → List Bool
-  tail b = cond b (groups turns later later (n / 2 ^ w)) []
+  tail b = if b then groups turns later later (n / 2 ^ w) else []
 
   pub length-groups : (b : Bool) → more w n ≡ b → length (groups (suc turns) later w n) ≡ w + 1 + length (tail b)
   unfolding groups
@@ -228,14 +228,14 @@ module _ (seen w group value used : ℕ) (goes : Reading) (n u : ℕ) where
       live h (inr t) = let ne = eqb-false group 0 t in omega arith
 
 -- the groups of a number with the bits xs below q
-groups_of : (turns later w q : ℕ) (xs : List Bool) (b : Bool) → length xs ≡ w → nat_lt 0 q ≡ b → groups (suc turns) later w (q * 2 ^ w + value_of xs) ≡ xs ++ (b ∷ cond b (groups turns later later q) [])
+groups_of : (turns later w q : ℕ) (xs : List Bool) (b : Bool) → length xs ≡ w → nat_lt 0 q ≡ b → groups (suc turns) later w (q * 2 ^ w + value_of xs) ≡ xs ++ (b ∷ (if b then groups turns later later q else []))
 unfolding groups
 groups_of turns later w q xs b long e =
     let below : value_of xs < 2 ^ w = subst (λ k. value_of xs < 2 ^ k) long (value_of_below xs) in
     let low : low_bits w (q * 2 ^ w + value_of xs) ≡ xs = low_bits_low w (value_of xs) q below ∙ ap (λ k. low_bits k (value_of xs)) (sym long) ∙ low_bits-value_of xs in
     let high : (q * 2 ^ w + value_of xs) / 2 ^ w ≡ q = shr_high q w (value_of xs) below in
-    (λ i. low i ++ (nat_lt 0 (high i) ∷ cond (nat_lt 0 (high i)) (groups turns later later (high i)) []))
-    ∙ ap (λ c. xs ++ (c ∷ cond c (groups turns later later q) [])) e
+    (λ i. low i ++ (nat_lt 0 (high i) ∷ (if nat_lt 0 (high i) then groups turns later later (high i) else [])))
+    ∙ ap (λ c. xs ++ (c ∷ (if c then groups turns later later q else []))) e
 
 module _ (turns later w seen value used : ℕ) (bs : List Bool) (n u : ℕ) (lw : 1 ≤ w) (enough : w + 1 ≤ length bs) where
   length_front : length (take w bs) ≡ w
@@ -244,7 +244,7 @@ module _ (turns later w seen value used : ℕ) (bs : List Bool) (n u : ℕ) (lw 
   split_at : (b : Bool) → slice_index_or bs w false ≡ b → bs ≡ take w bs ++ (b ∷ drop (w + 1) bs)
   split_at b e = sym (take-append-drop w bs) ∙ ap (λ l. take w bs ++ l) (drop_more bs w false (omega arith) ∙ ap (λ c. c ∷ drop (w + 1) bs) e)
 
-  spelt_more : get_or bs w false ≡ true → n ≤ greatest → Spelt turns later later (seen + w) (value + value_of (take w bs) * 2 ^ seen) (used + (w + 1)) (drop (w + 1) bs) n u → Spelt (suc turns) later w seen value used bs n u
+  spelt_more : slice_index_or bs w false ≡ true → n ≤ greatest → Spelt turns later later (seen + w) (value + value_of (take w bs) * 2 ^ seen) (used + (w + 1)) (drop (w + 1) bs) n u → Spelt (suc turns) later w seen value used bs n u
   spelt_more e fits s =
       let q = s.m in
       let some : 0 < q = s.live (omega arith) in
@@ -261,7 +261,7 @@ module _ (turns later w seen value used : ℕ) (bs : List Bool) (n u : ℕ) (lw 
         live = λ _. omega (arith, high, same);
       }
 
-  spelt_last : get_or bs w false ≡ false → n ≤ greatest → (number (value + value_of (take w bs) * 2 ^ seen) (used + (w + 1)) ≡ number n u) × (0 < seen → 0 < value_of (take w bs)) → Spelt (suc turns) later w seen value used bs n u
+  spelt_last : slice_index_or bs w false ≡ false → n ≤ greatest → (number (value + value_of (take w bs) * 2 ^ seen) (used + (w + 1)) ≡ number n u) × (0 < seen → 0 < value_of (take w bs)) → Spelt (suc turns) later w seen value used bs n u
   spelt_last e fits h =
       let is = groups_of turns later w 0 (take w bs) false length_front refl in
       let same = h.0 in

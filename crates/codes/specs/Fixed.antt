@@ -1,5 +1,5 @@
 -- The fixed code: each number in w bits.
-use Rattle.std.specs.Prelude.{ℕ, ◌-◌, ◌^◌, Bool, cond, List, [], ◌∷◌, length, take, Ok, Err, Result, nat_le}
+use Rattle.std.specs.Prelude.{ℕ, ◌-◌, ◌^◌, Bool, List, [], ◌∷◌, length, take, Ok, Err, Result, if◌then◌else◌, nat_le}
 use Rattle.codes.specs.declared.refusal.MakeRefusal.{MakeRefusal}
 use Rattle.codes.specs.declared.refusal.MakeRefusal.TheVariants.{OutOfRange}
 use Rattle.codes.specs.Refusal.{between}
@@ -7,7 +7,7 @@ use Rattle.rules.specs.Bits.{low_bits, value_of}
 use Rattle.rules.specs.Meaning.{Meaning, Reading, number, cut}
 
 abbrev pub fixed_reading : ℕ → List Bool → Reading
-fixed_reading w bs = cond (nat_le w (length bs)) (number (value_of (take w bs)) w) cut
+fixed_reading w bs = if nat_le w (length bs) then number (value_of (take w bs)) w else cut
 
 abbrev pub fixed_meaning : ℕ → Meaning
 fixed_meaning w = record {
@@ -19,4 +19,4 @@ fixed_meaning w = record {
 
 -- the width of the code that is made
 abbrev pub fixed_made : ℕ → Result ℕ MakeRefusal
-fixed_made w = cond (between 4 32 w) (Ok w) (Err OutOfRange)
+fixed_made w = if between 4 32 w then Ok w else Err OutOfRange

@@ -6,11 +6,12 @@ use Rattle.codes.specs.Chunked.{chunked_made, chunked_meaning}
 use Rattle.codes.specs.Fixed.{fixed_made, fixed_meaning}
 use Rattle.codes.specs.Refusal.{making_number}
 use Rattle.codes.specs.declared.refusal.MakeRefusal.{MakeRefusal}
+use Rattle.text.specs.declared.place.Place.{Place}
 use Rattle.counts.specs.declared.request.CodeAsked.{CodeAsked}
 use Rattle.counts.specs.declared.request.CodeAsked.TheVariants.{Chunked, Fixed}
 use Rattle.counts.specs.Output.{output_of}
 use Rattle.counts.specs.Report.{bad_line, refused_line}
-use Rattle.counts.specs.Request.{asked_by}
+use Rattle.counts.specs.Request.{Asked, asked_by}
 
 abbrev pub refused_making : MakeRefusal → List ℕ
 refused_making e = refused_line (making_number e) ++ 10 ∷ []
@@ -24,5 +25,10 @@ abbrev pub answer_to : CodeAsked → List ℕ → List ℕ
 answer_to (Chunked first later) counts = answer_in (on_ok (λ made. chunked_meaning made.0 made.1) (chunked_made first later)) counts
 answer_to (Fixed width) counts = answer_in (on_ok fixed_meaning (fixed_made width)) counts
 
+-- the answer to what was asked, or the place of the first bad word
+abbrev pub reply_by : Result Asked Place → List ℕ
+reply_by (Ok asked) = answer_to asked.code asked.counts
+reply_by (Err place) = bad_line place ++ 10 ∷ []
+
 abbrev pub reply_to : List ℕ → List ℕ
-reply_to text = elim (asked_by text) [ Ok asked ↦ answer_to asked.code asked.counts | Err place ↦ bad_line place ++ 10 ∷ [] ]
+reply_to text = reply_by (asked_by text)

@@ -1,6 +1,6 @@
 -- The lines that `counts` prints. A count is in hexadecimal without leading zeros; how many there are, places, sizes and
 -- refusals are in decimal.
-use Rattle.std.specs.Prelude.{ℕ, ◌-◌, Bool, cond, List, ◌++◌, map, length, take, drop, codes, decimal}
+use Rattle.std.specs.Prelude.{ℕ, ◌-◌, Bool, List, ◌++◌, map, length, take, drop, codes, decimal, if◌then◌else◌}
 use Rattle.rules.specs.Bits.{bits_in}
 use Rattle.text.specs.Hex.{hex_text, hex_bytes}
 use Rattle.text.specs.declared.place.Place.{Place}
@@ -9,7 +9,7 @@ use Rattle.counts.specs.declared.report.Line.TheVariants.{Count, Read, Bytes, To
 
 -- bits as 0s and 1s, in the order in which they were written
 abbrev pub bits_text : List Bool → List ℕ
-bits_text bits = map (λ b. cond b 49 48) bits
+bits_text bits = map (λ b. if b then 49 else 48) bits
 
 abbrev pub bits_between : ℕ → ℕ → List ℕ → List Bool
 bits_between from to bytes = take (to - from) (drop from (bits_in bytes))

@@ -1,6 +1,6 @@
 -- A program that is a list of accesses. Its state: the place in the list, the value loaded last, and four numbers
 -- for each access.
-use Rattle.std.specs.Prelude.{◌≡◌, ℕ, ◌+◌, ◌*◌, min, cond, List, [], ◌∷◌, map, length, drop, ◌==◌, slice_index, slice_index_or, slice_set}
+use Rattle.std.specs.Prelude.{◌≡◌, ℕ, ◌+◌, ◌*◌, min, List, [], ◌∷◌, map, length, drop, ◌==◌, if◌then◌else◌, slice_index, slice_index_or, slice_set}
 use Rattle.std.specs.List.{flat_map}
 use Rattle.rules.specs.Program.{Behaviour, ran}
 use Rattle.rules.specs.declared.program.Want.TheVariants.{Ended}
@@ -31,7 +31,9 @@ abbrev pub moved_on : ℕ → List ℕ → List ℕ
 moved_on last s = slice_set (slice_set s 0 (slice_index s 0 + 1)) 1 last
 
 abbrev pub list_next : List ℕ → ℕ → List ℕ
-list_next s v = cond (number_of s 0 == 1) (moved_on v s) (cond (number_of s 0 == 2) (moved_on (slice_index s 1) s) s)
+list_next s v =
+    if number_of s 0 == 1 then moved_on v s
+    else (if number_of s 0 == 2 then moved_on (slice_index s 1) s else s)
 
 abbrev pub list_behaviour : Behaviour
 list_behaviour = record { want = λ s. want_of (access_at s); next = list_next }
@@ -39,7 +41,7 @@ list_behaviour = record { want = λ s. want_of (access_at s); next = list_next }
 -- the accesses up to the first that is neither a load nor a store
 abbrev pub front : List ListedAccess → List ListedAccess
 front [] = []
-front (a ∷ accesses) = cond (loads_or_stores a) (a ∷ front accesses) []
+front (a ∷ accesses) = if loads_or_stores a then a ∷ front accesses else []
 
 -- A list wants these accesses one after the other, whatever the values, and is then ended.
 abbrev pub WantsInOrder : List ListedAccess → Type 0
@@ -49,7 +51,7 @@ WantsInOrder accesses = (values : List ℕ) → list_behaviour.want (ran list_be
 abbrev pub last_loaded : ℕ → List ListedAccess → List ℕ → ℕ
 last_loaded last [] values = last
 last_loaded last (a ∷ accesses) [] = last
-last_loaded last (a ∷ accesses) (v ∷ vs) = last_loaded (cond (a.kind == 1) v last) accesses vs
+last_loaded last (a ∷ accesses) (v ∷ vs) = last_loaded (if a.kind == 1 then v else last) accesses vs
 
 -- Its state then: one place on for each value, up to the end; the value given at the latest load, and 0 before any; the same accesses.
 abbrev pub MovesOn : List ListedAccess → Type 0

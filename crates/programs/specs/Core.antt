@@ -1,5 +1,5 @@
 -- A small core. Its state: the place of the word that is next, the eight registers, and the words.
-use Rattle.std.specs.Prelude.{◌≡◌, ℕ, ◌+◌, ◌%◌, ◌^◌, ◌<◌, cond, List, ◌∷◌, ◌++◌, length, take, drop, replicate, ◌==◌, slice_index, slice_set}
+use Rattle.std.specs.Prelude.{◌≡◌, ℕ, ◌+◌, ◌%◌, ◌^◌, ◌<◌, List, ◌∷◌, ◌++◌, length, take, drop, replicate, ◌==◌, if◌then◌else◌, slice_index, slice_set}
 use Rattle.std.specs.List.{AllByRecursion}
 use Rattle.rules.specs.Program.{Behaviour, ran}
 use Rattle.rules.specs.declared.program.Want.{Want}
@@ -54,7 +54,7 @@ next_by AddConstant i value state = with_number i.d (sum32 (register_at state i.
 next_by AddRegister i value state = with_number i.d (sum32 (register_at state i.d) (register_at state i.s)) state
 next_by (Load size) i value state = with_number i.d (loaded_into size value) state
 next_by (Store size) i value state = gone_to (next_place state) state
-next_by Jump i value state = gone_to (cond (register_at state i.d == 0) (next_place state) i.k) state
+next_by Jump i value state = gone_to (if register_at state i.d == 0 then next_place state else i.k) state
 next_by Other i value state = state
 
 abbrev pub core_want : List ℕ → Want

@@ -1,5 +1,5 @@
 -- The first-access cache: a list of sets, each a list of lines, latest use first.
-use Rattle.std.specs.Prelude.{ℕ, suc, ◌+◌, ◌-◌, ◌*◌, ◌/◌, ◌%◌, max, Bool, true, false, cond, not, ◌&&◌, ◌||◌, List, [], ◌∷◌, take, replicate, Some, None, Option, ◌==◌, nat_le, slice_index_or, slice_set}
+use Rattle.std.specs.Prelude.{ℕ, suc, ◌+◌, ◌-◌, ◌*◌, ◌/◌, ◌%◌, max, Bool, true, false, not, ◌&&◌, ◌||◌, List, [], ◌∷◌, take, replicate, Some, None, Option, ◌==◌, if◌then◌else◌, nat_le, slice_index_or, slice_set}
 use Rattle.rules.specs.Bytes.{low_bytes, number_of, stretch}
 use Rattle.rules.specs.Overlay.{overlay}
 use Rattle.rules.specs.declared.cache.Line.{Line}
@@ -61,7 +61,7 @@ new_line fill block = record { block = block; bytes = fill; flags = replicate 16
 
 -- a stale line takes the fill's bytes and loses flags and mark
 abbrev pub refreshed : List ℕ → Line → Line
-refreshed fill l = cond l.stale (new_line fill l.block) l
+refreshed fill l = if l.stale then new_line fill l.block else l
 
 -- a line with its mark, and no flags
 abbrev pub staled : Line → Line
@@ -90,12 +90,12 @@ read_in address size l = number_of (stretch (offset_of address) size l.bytes)
 -- the first element that passes the test
 abbrev pub first : {X : Type 0} → (X → Bool) → List X → Option X
 first test [] = None
-first test (x ∷ xs) = cond (test x) (Some x) (first test xs)
+first test (x ∷ xs) = if test x then Some x else first test xs
 
 -- the elements but for the first that passes the test
 abbrev pub less : {X : Type 0} → (X → Bool) → List X → List X
 less test [] = []
-less test (x ∷ xs) = cond (test x) xs (x ∷ less test xs)
+less test (x ∷ xs) = if test x then xs else x ∷ less test xs
 
 abbrev pub holds : ℕ → Line → Bool
 holds block l = l.block == block
@@ -124,7 +124,7 @@ known_in k address size ls = known_by k address size (first (holds (block_of add
 -- the block's line turns stale in its place
 abbrev pub invalidated_in : ℕ → List Line → List Line
 invalidated_in block [] = []
-invalidated_in block (l ∷ ls) = cond (holds block l) (staled l ∷ ls) (l ∷ invalidated_in block ls)
+invalidated_in block (l ∷ ls) = if holds block l then staled l ∷ ls else l ∷ invalidated_in block ls
 
 -- The cache
 
@@ -143,7 +143,7 @@ is_load_known k address size cache = known_in k address size (set_for k (block_o
 
 -- a load that isn't known flags its region
 abbrev pub loaded_in : Settings → List ℕ → ℕ → ℕ → List Line → List Line
-loaded_in k fill address size ls = promoted k fill (block_of address) (cond (known_in k address size ls) (λ l. l) (region_flagged k address size)) ls
+loaded_in k fill address size ls = promoted k fill (block_of address) (if known_in k address size ls then (λ l. l) else region_flagged k address size) ls
 
 -- what a load reads from the line that comes forward
 abbrev pub loaded_value : Settings → List ℕ → ℕ → ℕ → List (List Line) → ℕ

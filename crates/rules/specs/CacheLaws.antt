@@ -1,5 +1,5 @@
 -- What holds of a cache after any operations, from the empty cache on. A history has its latest operation first.
-use Rattle.std.specs.Prelude.{◌≡◌, ℕ, suc, ◌+◌, ◌-◌, ◌*◌, ◌%◌, ◌^◌, ◌<◌, ◌≤◌, Bool, true, false, cond, not, ◌&&◌, ◌⊎◌, List, [], ◌∷◌, map, length, take, Some, None, Decides, Option, ◌==◌, ◌≢◌, nat_eq, nat_le, nat_lt, slice_index, slice_index_or}
+use Rattle.std.specs.Prelude.{◌≡◌, ℕ, suc, ◌+◌, ◌-◌, ◌*◌, ◌%◌, ◌^◌, ◌<◌, ◌≤◌, Bool, true, false, not, ◌&&◌, ◌⊎◌, List, [], ◌∷◌, map, length, take, Some, None, Decides, Option, ◌==◌, ◌≢◌, if◌then◌else◌, nat_eq, nat_le, nat_lt, slice_index, slice_index_or}
 use Rattle.std.specs.List.{AllByRecursion}
 use Rattle.rules.specs.Bytes.{low_bytes}
 use Rattle.rules.specs.Cache.{less, first, holds, block_of, offset_of, region_from, region_size, empty_cache, set_for, is_aligned, is_load_known, loaded_value, Operation, load, store, invalidate, applied}
@@ -23,8 +23,8 @@ used_first block blocks = block ∷ less (λ b. nat_eq b block) blocks
 -- the blocks of the set s that were used, each once, latest use first
 abbrev pub uses : Settings → ℕ → List Operation → List ℕ
 uses k s [] = []
-uses k s (load fill address size ∷ earlier) = cond (block_of address % k.sets == s) (used_first (block_of address) (uses k s earlier)) (uses k s earlier)
-uses k s (store fill address size value ∷ earlier) = cond (block_of address % k.sets == s) (used_first (block_of address) (uses k s earlier)) (uses k s earlier)
+uses k s (load fill address size ∷ earlier) = if block_of address % k.sets == s then used_first (block_of address) (uses k s earlier) else uses k s earlier
+uses k s (store fill address size value ∷ earlier) = if block_of address % k.sets == s then used_first (block_of address) (uses k s earlier) else uses k s earlier
 uses k s (invalidate address ∷ earlier) = uses k s earlier
 
 abbrev pub LatestUses : Settings → Type 0
@@ -79,9 +79,9 @@ KnownHeld k = (history : List Operation) (address size : ℕ) → is_aligned add
 
 abbrev pub invalidated_since : ℕ → List Operation → Bool
 invalidated_since block [] = false
-invalidated_since block (load fill address size ∷ earlier) = cond (block_of address == block) false (invalidated_since block earlier)
-invalidated_since block (store fill address size value ∷ earlier) = cond (block_of address == block) false (invalidated_since block earlier)
-invalidated_since block (invalidate address ∷ earlier) = cond (block_of address == block) true (invalidated_since block earlier)
+invalidated_since block (load fill address size ∷ earlier) = if block_of address == block then false else invalidated_since block earlier
+invalidated_since block (store fill address size value ∷ earlier) = if block_of address == block then false else invalidated_since block earlier
+invalidated_since block (invalidate address ∷ earlier) = if block_of address == block then true else invalidated_since block earlier
 
 abbrev pub MarksSince : Settings → Type 0
 MarksSince k = (history : List Operation) (block : ℕ) (l : Line) → line_for k block (after k history) ≡ Some l → l.stale ≡ invalidated_since block history
@@ -122,16 +122,19 @@ Given (invalidate address) = Unit {0}
 -- byte p that a load or store finds, given that of the block's line before it: the line's own if it was there and fresh,
 -- else the fill's
 abbrev pub found_byte : Settings → ℕ → ℕ → List ℕ → List Operation → ℕ → ℕ
-found_byte k block p fill earlier own = cond (fresh_line (line_for k block (after k earlier))) own (slice_index fill p)
+found_byte k block p fill earlier own = if fresh_line (line_for k block (after k earlier)) then own else slice_index fill p
 
 -- byte p of the block's line
 abbrev pub byte_since : Settings → ℕ → ℕ → List Operation → ℕ
 byte_since k block p [] = 0
-byte_since k block p (load fill address size ∷ earlier) = cond (block_of address == block) (found_byte k block p fill earlier (byte_since k block p earlier)) (byte_since k block p earlier)
+byte_since k block p (load fill address size ∷ earlier) =
+    if block_of address == block then found_byte k block p fill earlier (byte_since k block p earlier)
+    else byte_since k block p earlier
 byte_since k block p (store fill address size value ∷ earlier) =
-    cond (block_of address == block)
-    (cond (nat_le (offset_of address) p && nat_lt p (offset_of address + size)) (slice_index (low_bytes size value) (p - offset_of address)) (found_byte k block p fill earlier (byte_since k block p earlier)))
-    (byte_since k block p earlier)
+    let covered = nat_le (offset_of address) p && nat_lt p (offset_of address + size) in
+    let found = found_byte k block p fill earlier (byte_since k block p earlier) in
+    if block_of address == block then (if covered then slice_index (low_bytes size value) (p - offset_of address) else found)
+    else byte_since k block p earlier
 byte_since k block p (invalidate address ∷ earlier) = byte_since k block p earlier
 
 abbrev pub BytesSince : Settings → Type 0
