@@ -9,6 +9,7 @@ use Rattle.rules.specs.Bits.{bits_in}
 use Rattle.rules.specs.Calls.{answer_of, write_answer, bytes_written, read_answer}
 use Rattle.rules.specs.Meaning.{Meaning, Sound, number}
 use Rattle.rules.proofs.Calls.{wrote, refused_same}
+use Rattle.codes.specs.declared.series.Series.{Series}
 use Rattle.codes.specs.Series.{series_by, series_from, bytes_by, series_bytes, ReadBack}
 
 -- the bits of the counts fill the buffer from the place to `end`
@@ -79,3 +80,34 @@ module _ (m : Meaning) (numbers bytes bytes' : List ℕ) (written place next nex
 pub stands_still : (m : Meaning) (ns : List ℕ) (n place next : ℕ) (bytes bytes' : List ℕ) (result : Result ℕ WriteRefusal) (x : WriteRefusal) → result ≡ write_answer m n next bytes → result ≡ Err x → bytes' ≡ bytes_written m n next bytes → Stands m ns place next bytes → Stands m ns place next bytes'
 stands_still m ns n place next bytes bytes' result x gave went is s =
     subst (Stands m ns place next) (sym (is ∙ refused_same m n next bytes x (sym gave ∙ went))) s
+
+-- a series writes no more counts than there are
+pub series_few : (m : Meaning) (done : ℕ) (ns : List ℕ) (place : ℕ) (bytes : List ℕ) → (series_from m done ns place bytes).written ≤ done + length ns
+series_few m done [] place bytes = omega arith
+series_few m done (n ∷ ns) place bytes =
+    step (write_answer m n place bytes) (λ next. series_few m (done + 1) ns next (bytes_written m n place bytes))
+  where
+    goes : ℕ → Series
+    goes next = series_from m (done + 1) ns next (bytes_written m n place bytes)
+
+    step : (r : Result ℕ WriteRefusal) → ((next : ℕ) → (goes next).written ≤ done + 1 + length ns) → (series_by done place r goes).written ≤ done + length (n ∷ ns)
+    step (Ok next) later = omega (arith, later next)
+    step (Err e) later = omega arith
+
+-- and ends within the bits that it begins in
+pub series_inside : (m : Meaning) (done : ℕ) (ns : List ℕ) (place : ℕ) (bytes : List ℕ) → place ≤ length (bits_in bytes) → (series_from m done ns place bytes).next ≤ length (bits_in bytes)
+series_inside m done [] place bytes h = h
+series_inside m done (n ∷ ns) place bytes h =
+    step (write_answer m n place bytes) refl (λ next. series_inside m (done + 1) ns next (bytes_written m n place bytes))
+  where
+    after : List ℕ
+    after = bytes_written m n place bytes
+
+    goes : ℕ → Series
+    goes next = series_from m (done + 1) ns next after
+
+    step : (r : Result ℕ WriteRefusal) → write_answer m n place bytes ≡ r
+        → ((next : ℕ) → next ≤ length (bits_in after) → (goes next).next ≤ length (bits_in after))
+        → (series_by done place r goes).next ≤ length (bits_in bytes)
+    step (Ok next) e later = let w = wrote m n place next bytes e in omega (arith, w.same_length, later next (omega (arith, w.fits, w.same_length)))
+    step (Err x) e later = h

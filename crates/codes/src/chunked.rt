@@ -13,6 +13,7 @@ use rules::count::{CodeName, CountCode, CountFault, Counted, WriteRefusal};
 use std::marker::Model;
 
 /// Counts in groups of bits: one of `first` bits, and then ones of `later` bits.
+// Ghost fields, not a model: the laws below read them from the value.
 #[derive(Clone, Copy)]
 pub struct Chunked {
     first: u32,

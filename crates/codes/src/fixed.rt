@@ -9,6 +9,7 @@ use crate::writer::write_bits;
 use rules::count::{CodeName, CountCode, CountFault, Counted, WriteRefusal};
 
 /// Every count in `width` bits.
+// Ghost fields, not a model: the laws below read them from the value.
 #[derive(Clone, Copy)]
 pub struct Fixed {
     width: u32,

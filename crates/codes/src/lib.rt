@@ -14,6 +14,7 @@ mod tests;
 pub mod writer;
 
 /// How many worked examples of the chunked code are proved.
+// A promise by itself: no other function is about them.
 pub fn worked_examples() -> usize
     ensures hold { WorkedExamples }
     ensures many { result ≡ length examples }

@@ -5,6 +5,7 @@ ghost use Rattle.codes.specs.Reader.{bits_left, word_taken, moved};
 use rules::count::BytesEnd;
 
 /// Reads bits of a slice from a place on.
+// It is `Copy`, which a type with a lifetime and a model can't be; so clauses name its fields.
 #[derive(Clone, Copy)]
 pub struct BitReader<'a> {
     bytes: &'a [u8],
@@ -66,7 +67,7 @@ fn word_at(bytes: &[u8], place: usize, width: usize) -> u64
     ensures { result ≡ value_of (take width (drop place (bits_in bytes.now))) }
 {
     let mut word: u64 = 0;
-    // From the highest down, so that each bit doubles those above it.
+    // By places, since a bit is no element that a slice could lend; from the highest down, so that each doubles those above.
     for at in (place..place + width).rev() {
         word = 2 * word + u64::from(bit_at(bytes, at));
     }

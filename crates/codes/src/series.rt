@@ -25,8 +25,8 @@ pub fn write_series<C: CountCode>(
     ensures readback { ReadBack (C.CountCode.meaning code.now) (take result.written numbers.now) place result.next buffer.new }
 {
     let mut next = place;
-    for (written, number) in numbers.iter().enumerate() {
-        match code.write(*number, next, buffer) {
+    for (written, &number) in numbers.iter().enumerate() {
+        match code.write(number, next, buffer) {
             Ok(after) => next = after,
             Err(refusal) => return Series {
                 written,

@@ -15,11 +15,7 @@ pub fn write_bits(
     ensures answer { result ≡ room place width buffer.old }
     ensures bytes { buffer.new ≡ laid place (low_bits width word) buffer.old }
 {
-    let size = bit_len(buffer);
-    if place > size || size - place < width as usize {
-        return Err(WriteRefusal::NoRoom);
-    }
-    let end = place + width as usize;
+    let end = place_after(place, width, buffer)?;
     let mut rest = word;
     // By places: a bit is no element that a slice could lend.
     for at in place..end {
@@ -27,6 +23,17 @@ pub fn write_bits(
         rest /= 2;
     }
     Ok(end)
+}
+
+/// The place after so many bits from a place on, if the buffer has them.
+fn place_after(place: usize, width: u32, buffer: &[u8]) -> Result<usize, WriteRefusal>
+    ensures { result ≡ room place width buffer.now }
+{
+    let size = bit_len(buffer);
+    place
+        .checked_add(width as usize)
+        .filter(|&end| end <= size)
+        .ok_or(WriteRefusal::NoRoom)
 }
 
 fn set_bit(buffer: &mut [u8], place: usize, bit: bool)

@@ -29,11 +29,11 @@ fn listed<C: CountCode>(
         reads: String::new(heap),
     };
     let mut from = 0;
-    for count in counts {
+    for &count in counts {
         let Ok(read) = code.read(from, buffer) else {
-            return Ok(listing);
+            unreachable!();
         };
-        let (count, to) = (*count, read.next);
+        let to = read.next;
         let bits = Bits { from, to, buffer };
         writeln!(listing.counts, "{}", Line::Count { count, bits })?;
         let count = u64::from(read.number);
@@ -49,16 +49,15 @@ pub fn output<C: CountCode>(heap: Global, code: &C, counts: &[u64]) -> Result<St
 {
     let mut buffer = [0u8; 1024];
     let series = write_series(code, counts, 0, &mut buffer);
-    let written = series.written.min(counts.len());
     let Listing {
         counts: mut text,
         reads,
-    } = listed(heap, code, &counts[..written], &buffer)?;
+    } = listed(heap, code, &counts[..series.written], &buffer)?;
     if let Some(refusal) = series.refusal {
         writeln!(text, "{}", Line::Refused(u8::from(refusal)))?;
     }
-    let size = series.next.div_ceil(8).min(buffer.len());
-    writeln!(text, "{}", Line::Bytes(&buffer[..size]))?;
+    let bytes = &buffer[..series.next.div_ceil(8)];
+    writeln!(text, "{}", Line::Bytes(bytes))?;
     text.push_str(reads.as_str())?;
     let total = Line::Total {
         counts: series.written,

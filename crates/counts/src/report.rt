@@ -37,6 +37,7 @@ pub enum Line<'a> {
     Read { count: u64, place: usize },
     Bytes(&'a [u8]),
     Total { counts: usize, bits: usize },
+    // The number is what is printed, whichever enum it is of.
     Refused(u8),
     Bad(Place),
 }

@@ -1,5 +1,5 @@
-ghost use Rattle.std.specs.Prelude.{◌≡◌, ◌-◌, ◌^◌, [], is_ok};
-ghost use Rattle.text.specs.Lines.{number_at, past};
+ghost use Rattle.std.specs.Prelude.{◌≡◌, ◌-◌, ◌^◌, []};
+ghost use Rattle.text.specs.Lines.{number_at, Takes};
 ghost use Rattle.text.specs.Views.{words_at, cursors_left};
 ghost use Rattle.counts.specs.Request.{chunked_asked, fixed_asked, code_asked, ended, count_asked, counts_asked, TellsCounts, Tells, asked_by};
 ghost use Rattle.counts.specs.declared.request.ParseFault.TheVariants.{BadWord, NoMemory};
@@ -9,7 +9,7 @@ use text::lines::Lines;
 use text::place::Place;
 use text::words::Words;
 
-#[derive(Clone, Copy)]
+#[derive(Clone, Copy, Debug, PartialEq, Eq)]
 pub enum CodeAsked {
     Chunked(u32, u32),
     Fixed(u32),
@@ -21,7 +21,7 @@ pub struct Request {
     pub counts: Vec<u64>,
 }
 
-#[derive(Clone, Copy)]
+#[derive(Clone, Copy, PartialEq, Eq)]
 pub enum ParseFault {
     BadWord(Place),
     NoMemory(AllocError),
@@ -53,8 +53,7 @@ impl<T: Drop> From<AllocFailed<T>> for ParseFault {
 
 // A number of 32 bits.
 fn number32(words: &mut Words) -> Result<u32, Place>
-    ensures answer { result ≡ number_at (2 ^ 32 - 1) (words_at words.old) }
-    ensures after { words_at words.new ≡ past (is_ok result) (words_at words.old) }
+    ensures { Takes (number_at (2 ^ 32 - 1)) (words_at words.old) (words_at words.new) result }
 {
     let number = words.number(u64::from(u32::MAX))?;
     Ok(number as u32)

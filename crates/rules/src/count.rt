@@ -53,8 +53,8 @@ impl From<WriteRefusal> for u8 {
 /// Three bytes that stand for a code in a trace's header.
 pub type CodeName = [u8; 3];
 
-/// A code for counts from 0 to a greatest number. Places are in bits. Buffer and place stay two parameters, since the
-/// rules' call takes both from its caller and answers the next place.
+/// A code for counts from 0 to a greatest number. Places are in bits.
+// Number, place and buffer stay parameters of their own: the rules' calls take them so, and answer the next place.
 pub trait CountCode {
     ghost meaning: { Self → Meaning };
 

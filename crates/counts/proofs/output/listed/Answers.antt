@@ -4,13 +4,6 @@ use Rattle.counts.specs.Report.{bits_between, count_line, read_line}
 use Rattle.counts.proofs.Listing.{Back, Seen, ok_same, next_count, counts_more, reads_more}
 use Rattle.counts.proofs.output.listed.Goals as goal
 
-pub returns-in_default : goal.returns-in_default
-returns-in_default g c =
-    let m = g.C.CountCode.meaning c.args.code.now in
-    let l = c.loop-count in
-    let n = next_count m (g.met.C.CountCode.sound c.args.code.now) c.args.counts.now l.count-index l.from c.args.buffer.now (omega arith) l.invariant.2 in
-    absurd (c.in_default.not-Ok _ (c.read.ensures ∙ n.answer))
-
 pub loop-count-preserved : goal.loop-count-preserved
 loop-count-preserved g c =
     let m = g.C.CountCode.meaning c.args.code.now in

@@ -1,25 +1,40 @@
-use Rattle.std.proofs.Common.{◌≡◌, ℕ, ◌+◌, ◌/◌, min, List, [], ◌∷◌, ◌++◌, length, take, string_bytes, sym, ap, ◌∙◌, subst, ap₂, ⊎_elim, arith, rules, take_all, append_assoc}
-use Rattle.std.proofs.lemmas.Bool.{cases_lt}
+use Rattle.std.proofs.Common.{◌≡◌, ℕ, ◌+◌, ◌*◌, ◌/◌, ◌≤◌, List, [], ◌∷◌, ◌++◌, length, length-take-le, replicate, take, string_bytes, sym, ap, ◌∙◌, ap₂, arith, rules, append_assoc}
 use Rattle.rules.specs.Meaning.{Meaning}
-use Rattle.codes.specs.Series.{ReadBack}
+use Rattle.std.proofs.lemmas.List.{length-replicate}
+use Rattle.rules.proofs.Bits.{length-bits_in}
+use Rattle.codes.specs.Series.{series_from}
+use Rattle.codes.proofs.Standing.{series_few, series_inside}
 use Rattle.codes.specs.declared.series.Series.{Series}
 use Rattle.counts.specs.Output.{count_lines, read_lines, refused_text}
 use Rattle.counts.specs.Report.{bytes_line, total_line}
 use Rattle.counts.proofs.output.output.Goals as goal
 use Rattle.counts.proofs.output.output.Goals.{in-Some+in_ok-writeln, in_default}
 
--- a part that is no longer than the list
-take_min : {X : Type 0} (k n : ℕ) (xs : List X) → n ≡ min k (length xs) → take n xs ≡ take k xs
-take_min k n xs e = ⊎_elim
-    (λ h. let same : n ≡ k = omega arith in ap (λ j. take j xs) same)
-    (λ h. take_all n xs (omega arith) ∙ sym (take_all k xs h))
-    (cases_lt k (length xs))
+-- what is written is part of the counts, and ends within the buffer
+module _ (m : Meaning) (counts bytes : List ℕ) (s : Series) (is : s ≡ series_from m 0 counts 0 bytes) where
+  few : s.written ≤ length counts
+  few = omega (arith, ap (λ t. t.written) is, series_few m 0 counts 0 bytes)
+
+  inside : s.next ≤ 8 * length bytes
+  inside = omega (arith, ap (λ t. t.next) is, series_inside m 0 counts 0 bytes (omega arith), length-bits_in bytes)
+
+pub slice_bounds-listed-end : goal.slice_bounds-listed-end
+slice_bounds-listed-end g c =
+    sym (length-take-le _ c.args.counts.now (few (g.C.CountCode.meaning c.args.code.now) c.args.counts.now (replicate 1024 0) c.write_series-series.result (search rules)))
+
+pub slice_bounds-buffer-end : goal.slice_bounds-buffer-end
+slice_bounds-buffer-end g c =
+    let long : length c.write_series-series.new.buffer ≡ 1024 = search rules in
+    omega (arith, c.div_ceil.ensures, long, inside (g.C.CountCode.meaning c.args.code.now) c.args.counts.now (replicate 1024 0) c.write_series-series.result (search rules), length-replicate {A = ℕ} 1024 0)
+
+pub slice_bounds-bytes-end : goal.slice_bounds-bytes-end
+slice_bounds-bytes-end g c =
+    let long : length c.write_series-series.new.buffer ≡ 1024 = search rules in
+    sym (length-take-le _ c.write_series-series.new.buffer (omega (arith, c.div_ceil.ensures, long, inside (g.C.CountCode.meaning c.args.code.now) c.args.counts.now (replicate 1024 0) c.write_series-series.result (search rules), length-replicate {A = ℕ} 1024 0)))
 
 pub listed-requires : goal.listed-requires
 listed-requires g c =
-    let m = g.C.CountCode.meaning c.args.code.now in
-    let s = c.write_series-series.result in
-    (s.next, subst (λ ns. ReadBack m ns 0 s.next c.write_series-series.new.buffer) (sym (take_min s.written c.min-written.result c.args.counts.now c.min-written.ensures)) c.write_series-series.ensures.readback)
+    (c.write_series-series.result.next, c.write_series-series.ensures.readback)
 
 -- a line put behind a text, with its end
 lined : (text line : List ℕ) → text ++ (line ++ 10 ∷ []) ≡ text ++ line ++ 10 ∷ []
@@ -37,19 +52,17 @@ returns g c =
     let s = c.write_series-series.result in
     let after = c.write_series-series.new.buffer in
     let told = c.in_ok-text.ensures in
-    let part = take_min s.written c.min-written.result counts c.min-written.ensures in
-    let filled : take c.min-size.result after ≡ take ((s.next + 7) / 8) after = take_min ((s.next + 7) / 8) c.min-size.result after (search (rules, arith)) in
-    let lines : string_bytes c.in_ok-text.text ≡ count_lines m (take s.written counts) 0 = search (rules, told.0, part) in
-    let reads : string_bytes c.in_ok-text.reads ≡ read_lines m (take s.written counts) 0 = search (rules, told.1, part) in
+    let lines : string_bytes c.in_ok-text.text ≡ count_lines m (take s.written counts) 0 = search (rules, told.0) in
+    let reads : string_bytes c.in_ok-text.reads ≡ read_lines m (take s.written counts) 0 = search (rules, told.1) in
     let refused : string_bytes c.match-series.text ≡ count_lines m (take s.written counts) 0 ++ refused_text s.refusal = elim c.match-series.branch [
       | in-Some+in_ok-writeln w ↦ search (rules, lines)
       | in_default w ↦ search (rules, lines)
     ] in
-    let bytes : string_bytes c.writeln-2.new.self ≡ string_bytes c.match-series.text ++ (bytes_line (take c.min-size.result after) ++ 10 ∷ []) = search rules in
+    let bytes : string_bytes c.writeln-2.new.self ≡ string_bytes c.match-series.text ++ (bytes_line (take ((s.next + 7) / 8) after) ++ 10 ∷ []) = search rules in
     let pushed : string_bytes c.push_str.new.self ≡ string_bytes c.writeln-2.new.self ++ string_bytes c.in_ok-text.reads = search rules in
     let total : string_bytes c.writeln-3.new.self ≡ string_bytes c.push_str.new.self ++ (total_line s.written s.next ++ 10 ∷ []) = search rules in
     let shown : string_bytes c.writeln-3.new.self ≡ whole m counts s after =
     total ∙ lined _ (total_line s.written s.next)
     ∙ ap (λ l. l ++ total_line s.written s.next ++ 10 ∷ [])
-    (pushed ∙ ap₂ ◌++◌ (bytes ∙ lined _ _ ∙ ap₂ (λ l bs. l ++ bytes_line bs ++ 10 ∷ []) refused filled) reads) in
+    (pushed ∙ ap₂ ◌++◌ (bytes ∙ lined _ _ ∙ ap (λ l. l ++ bytes_line (take ((s.next + 7) / 8) after) ++ 10 ∷ []) refused) reads) in
     shown ∙ ap₂ (whole m counts) c.write_series-series.ensures.answer c.write_series-series.ensures.bytes
