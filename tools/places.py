@@ -25,7 +25,7 @@ def grep(texts, pattern):
 
 
 row("1a", "own enums", grep(code, r"^\s*(pub(\(crate\))? )?enum "))
-row("1b", "numbers for refusals or kinds", grep(code, r"fn number\(self\) -> (u8|Option)|\bkind: u\d+,"))
+row("1b", "numbers for refusals or kinds", grep(code, r"fn (number|code|kind)\(self\) -> (u8|Option)|\b(kind|code): u(8|16|32),|^\s+[A-Z]\w+\(u8\),"))
 row("1c", "a bool as a field or a parameter", grep(code, r"\b\w+: bool\b"))
 row("1d", "a result or an option taken apart to be made again, an error made by hand",
     grep(sources, r"(Ok|Some)\(\w+\) => ((Ok|Some)\(|\w+ = )|Err\(\w*\) => Err\(|None => (None|Err\()|Err\(AllocError\)"))
@@ -33,8 +33,8 @@ row("3a", "loops over numbers, and while", grep(sources, r"\b(while|loop)\b.*\{$
 row("3b", "an index that is a sum or a quotient", grep(code, r"\w\[[^\]:]*[+*/][^\]]*\]"))
 row("4a", "impls of equality, order, copying and the like by hand",
     grep(code, r"^\s*impl.* (PartialEq|Eq|PartialOrd|Ord|Clone|Copy|Hash|Default|Debug)\b.* for "))
-row("4b", "a conversion as a function",
-    grep(code, r"fn (decoded|\w+_numbered|number\(self\) -> (u8|O)|number32|number\(word|digit_char|digit_value|bit_char)"))
+row("4b", "a function of one value that answers a number, a character or a struct (not `from`, `new`)",
+    grep(code, r"fn (?!from\b|new\b|try_from\b)\w+\((self|\w+: (u8|u16|u32|u64|usize))\) -> (Option<)?(u8|u16|u32|u64|usize|char|[A-Z]\w+)\b"))
 row("4c", "a function that makes a text", grep(code, r"-> Result<String|fn add_\w+\("))
 row("4d", "a chain of comparisons with numbers",
     grep(code, r"(\w+ == \d+ \|\| \S*){2}|\d+ <= \w+ && \w+ <= |\w+ < \d+ \|\| \S+ > "))
@@ -53,7 +53,11 @@ for p, t in code.items():
 row("6a", "a struct with a buffer or word, and a number beside it", lengths)
 row("6b", "a struct with two buffers", buffers)
 row("7a", "boxed closures, function pointers, tables of functions", grep(code, r"\bdyn\b|\bfn\(|\[fn"))
-row("8a", "functions that do nothing at run time", grep(code, r"fn (holds|list_runs|core_runs)\w*\("))
+row("8a", "functions that do nothing at run time: no body, a bare number, or only what a proof uses",
+    [f"{p}: {name}" for p, t in code.items() for name, body in
+     re.findall(r"^ *(?:pub(?:\(crate\))? )?fn (\w+)(?:(?!^ *(?:pub|fn)).)*?^ *\{\n?(.*?)^ *\}$", t, re.S | re.M)
+     if re.fullmatch(r"\s*(\d+|let _ = .*;)?\s*", body) or "prove!" in body]
+    + grep(code, r"^\{\}$"))
 
 # Texts that stand in the contracts of three or more functions, and parameters that go together in three or more.
 clauses, views, params = (collections.defaultdict(set) for _ in range(3))

@@ -6,6 +6,7 @@ ghost use Rattle.cache.specs.Access.{proper_access};
 use crate::stretch::Stretch;
 
 /// An access of 1, 2, 4 or 8 bytes at a multiple of as many. It is made only if it also ends within memory.
+// Ghost fields, not a model: callers' proofs read them. Clauses name both numbers, as the rules' definitions take them.
 #[derive(Clone, Copy)]
 pub struct Access {
     pub(crate) address: u32,

@@ -9,6 +9,7 @@ use rules::cache::Settings;
 use std::ops::Range;
 
 /// Settings that a cache can have: 1, 2, 4, 8 or 16 sets of at most 1, 2 or 4 lines, and granules of 1, 2, 4 or 8 bytes.
+// A ghost field, not a model: callers' proofs read it.
 #[derive(Clone, Copy)]
 pub struct Shape {
     settings: Settings,

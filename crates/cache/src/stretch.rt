@@ -3,6 +3,7 @@ ghost use Rattle.std.specs.Prelude.{◌≡◌, ◌+◌, ◌≤◌};
 use std::ops::Range;
 
 /// Up to 8 bytes of a block, from a place in it on.
+// Clauses name both numbers, as the rules' definitions take them.
 #[derive(Clone, Copy)]
 pub(crate) struct Stretch {
     pub(crate) from: usize,

@@ -33,6 +33,7 @@ const PAST: ListedAccess = ListedAccess {
 };
 
 /// Wants its accesses one after the other, up to the first of another kind, and keeps the value loaded last.
+// Ghost fields, not a model: the laws below read them from the value.
 #[derive(Drop)]
 pub struct AccessList {
     accesses: Vec<ListedAccess>,

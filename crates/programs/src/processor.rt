@@ -11,6 +11,7 @@ use rules::program::{Program, Want};
 use std::alloc::Global;
 
 /// Does the word at its place, from word 0 on.
+// Ghost fields, not a model: the laws below read them from the value.
 #[derive(Drop)]
 pub struct Core {
     place: usize,
