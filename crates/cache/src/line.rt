@@ -84,7 +84,8 @@ impl Shape {
     /// What a load does to the line that has come forward, and the value that it reads. Whether it is known was asked
     /// before anything moved.
     pub(crate) fn take_load(self, line: &mut Line, access: Access, known: bool) -> u64
-        ensures after { line.new ≡ (if known then (λ l. l) else region_flagged self.settings access.address access.size) line.old }
+        ensures after { line.new
+            ≡ (if known then (λ l. l) else region_flagged self.settings access.address access.size) line.old }
         ensures value { result ≡ read_in access.address access.size line.old }
     {
         if !known {

@@ -54,7 +54,8 @@ impl Cache {
     /// The value of a load. The fill is what the line takes if its block is absent or stale.
     pub fn load(&mut self, access: Access, fill: &BlockBytes) -> u64
         ensures cache { Does (load_of fill.now access.address access.size) self.old self.new }
-        ensures value { result ≡ loaded_value (settings_of self.old) fill.now access.address access.size (sets_of self.old) }
+        ensures value { result
+            ≡ loaded_value (settings_of self.old) fill.now access.address access.size (sets_of self.old) }
     {
         let known = self.known(access);
         let shape = self.shape;

@@ -53,7 +53,8 @@ impl Shape {
 
     /// The granules that lie whole in a stretch.
     pub(crate) fn granules(self, part: Stretch) -> Range<usize>
-        ensures whole { (q : ℕ) → within self.settings.granule part.from part.size q ≡ (nat_le result.start q && nat_lt q result.end) }
+        ensures whole { (q : ℕ) → within self.settings.granule part.from part.size q
+            ≡ (nat_le result.start q && nat_lt q result.end) }
         ensures order { result.start ≤ result.end }
         ensures most { result.end ≤ 16 }
     {

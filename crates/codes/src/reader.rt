@@ -67,7 +67,8 @@ fn word_at(bytes: &[u8], place: usize, width: usize) -> u64
     ensures { result ≡ value_of (take width (drop place (bits_in bytes.now))) }
 {
     let mut word: u64 = 0;
-    // By places, since a bit is no element that a slice could lend; from the highest down, so that each doubles those above.
+    // By places, since a bit is no element that a slice could lend; from the highest down, so that each bit doubles
+    // those above it.
     for at in (place..place + width).rev() {
         word = 2 * word + u64::from(bit_at(bytes, at));
     }

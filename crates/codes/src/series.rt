@@ -5,7 +5,7 @@ use rules::count::{CountCode, WriteRefusal};
 
 /// How many counts of a series were written, the place after them, and why the next was refused, if one was.
 // No `Result`: the count and the place stand in both outcomes.
-#[derive(Clone, Copy)]
+#[derive(Clone, Copy, Debug, PartialEq, Eq)]
 pub struct Series {
     pub written: usize,
     pub next: usize,
@@ -22,7 +22,8 @@ pub fn write_series<C: CountCode>(
 ) -> Series
     ensures answer { result ≡ series_from (C.CountCode.meaning code.now) 0 numbers.now place buffer.old }
     ensures bytes { buffer.new ≡ series_bytes (C.CountCode.meaning code.now) numbers.now place buffer.old }
-    ensures readback { ReadBack (C.CountCode.meaning code.now) (take result.written numbers.now) place result.next buffer.new }
+    ensures readback { ReadBack (C.CountCode.meaning code.now) (take result.written numbers.now)
+        place result.next buffer.new }
 {
     let mut next = place;
     for (written, &number) in numbers.iter().enumerate() {

@@ -65,26 +65,20 @@ fn names(rt: HostRuntime) -> Result<(), Fail> {
 #[test]
 fn refusals_leave_the_buffer(rt: HostRuntime) -> Result<(), Fail> {
     let mut buffer = [0xA5u8];
-    assert!(rt;
-        matches!(
-            fixed(4)?.write(16, 9, &mut buffer),
-            Err(WriteRefusal::AboveTop)
-        )
+    assert_eq!(rt;
+        fixed(4)?.write(16, 9, &mut buffer),
+        Err(WriteRefusal::AboveTop)
     );
-    assert!(rt;
-        matches!(
-            fixed(4)?.write(15, 5, &mut buffer),
-            Err(WriteRefusal::NoRoom)
-        )
+    assert_eq!(rt;
+        fixed(4)?.write(15, 5, &mut buffer),
+        Err(WriteRefusal::NoRoom)
     );
-    assert!(rt;
-        matches!(
-            chunked(1, 1)?.write(1 << 32, 0, &mut buffer),
-            Err(WriteRefusal::AboveTop)
-        )
+    assert_eq!(rt;
+        chunked(1, 1)?.write(1 << 32, 0, &mut buffer),
+        Err(WriteRefusal::AboveTop)
     );
     assert!(rt; buffer == [0xA5]);
-    assert!(rt; matches!(fixed(4)?.write(15, 4, &mut buffer), Ok(8)));
+    assert_eq!(rt; fixed(4)?.write(15, 4, &mut buffer), Ok(8));
     assert!(rt; buffer == [0xF5]);
     Ok(())
 }
@@ -93,7 +87,7 @@ fn refusals_leave_the_buffer(rt: HostRuntime) -> Result<(), Fail> {
 #[test]
 fn bad_and_cut(rt: HostRuntime) -> Result<(), Fail> {
     let code = chunked(2, 2)?;
-    assert!(rt; matches!(code.read(0, &[7]), Err(CountFault::Bad(0))));
+    assert_eq!(rt; code.read(0, &[7]), Err(CountFault::Bad(0)));
     for place in [4, 8, 9] {
         let Err(CountFault::Cut(end)) = code.read(place, &[0x70]) else {
             return Err(Fail::new("not cut"));
@@ -108,12 +102,12 @@ fn full_buffer(rt: HostRuntime) -> Result<(), Fail> {
     let mut buffer = [0u8; 16];
     let series = write_series(
         &chunked(1, 1)?,
-        &[4294967295, 4294967295, 0],
+        &[u64::from(u32::MAX), u64::from(u32::MAX), 0],
         0,
         &mut buffer,
     );
     assert_eq!(rt; series.written, 2);
     assert_eq!(rt; series.next, 128);
-    assert!(rt; matches!(series.refusal, Some(WriteRefusal::NoRoom)));
+    assert_eq!(rt; series.refusal, Some(WriteRefusal::NoRoom));
     Ok(())
 }

@@ -22,7 +22,9 @@ fn listed<C: CountCode>(
     buffer: &[u8],
 ) -> Result<Listing, AllocError>
     requires { (end : ℕ) × ReadBack (C.CountCode.meaning code.now) counts.now 0 end buffer.now }
-    ensures { IfOk result (λ l. (string_bytes l.counts ≡ count_lines (C.CountCode.meaning code.now) counts.now 0) × (string_bytes l.reads ≡ read_lines (C.CountCode.meaning code.now) counts.now 0)) }
+    ensures { IfOk result (λ l.
+        (string_bytes l.counts ≡ count_lines (C.CountCode.meaning code.now) counts.now 0)
+        × (string_bytes l.reads ≡ read_lines (C.CountCode.meaning code.now) counts.now 0)) }
 {
     let mut listing = Listing {
         counts: String::new(heap),

@@ -6,7 +6,7 @@ use text::hex::{Hex, HexBytes};
 use text::place::Place;
 
 /// The bits of a buffer between two places, as 0s and 1s.
-#[derive(Clone, Copy)]
+#[derive(Clone, Copy, Debug, PartialEq, Eq)]
 pub struct Bits<'a> {
     pub from: usize,
     pub to: usize,
@@ -31,7 +31,7 @@ impl fmt::Display for Bits<'_> {
 }
 
 /// A line that is printed.
-#[derive(Clone, Copy)]
+#[derive(Clone, Copy, Debug, PartialEq, Eq)]
 pub enum Line<'a> {
     Count { count: u64, bits: Bits<'a> },
     Read { count: u64, place: usize },

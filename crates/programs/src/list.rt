@@ -110,8 +110,8 @@ impl Program for AccessList {
     }
 }
 
-// Changes nothing: a proof knows that the numbers of an access are below 2^64 only where that access is used. Tried without:
-// the elements of a slice of structs have no ranges of their own.
+// Changes nothing: a proof knows that the numbers of an access are below 2^64 only where that access is used. Tried
+// without: the elements of a slice of structs have no ranges of their own.
 #[tactic(auto, using(crate::proofs::Numbers::below_more))]
 fn holds_numbers(accesses: &[ListedAccess])
     ensures { All (λ n. n < 2 ^ 64) (flat_map numbers_of accesses.now) }

@@ -51,7 +51,7 @@ pub fn width(value: u64) -> u32
 
 /// The `count` lowest digits of a value, highest first; a value has 16.
 // Not `{:X}`: it cuts no number to so many digits. With this, `Hex` and `HexBytes` are one call each.
-#[derive(Clone, Copy)]
+#[derive(Clone, Copy, Debug, PartialEq, Eq)]
 pub struct Digits {
     pub count: u32,
     pub value: u64,
@@ -69,7 +69,7 @@ impl fmt::Display for Digits {
 }
 
 /// A value in as many digits as it has.
-#[derive(Clone, Copy)]
+#[derive(Clone, Copy, Debug, PartialEq, Eq)]
 pub struct Hex(pub u64);
 
 impl fmt::Display for Hex {
@@ -85,7 +85,7 @@ impl fmt::Display for Hex {
 }
 
 /// Two digits for each byte.
-#[derive(Clone, Copy)]
+#[derive(Clone, Copy, Debug, PartialEq, Eq)]
 pub struct HexBytes<'a>(pub &'a [u8]);
 
 impl fmt::Display for HexBytes<'_> {

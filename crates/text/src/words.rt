@@ -5,8 +5,8 @@ use crate::hex;
 use crate::place::Place;
 
 /// The words of one line, from the index `at` on.
-// A slice with an index into it: the index is the column that a fault tells. It is `Copy`, which a type with a lifetime and
-// a model can't be; so views in specs/ say what it stands for.
+// A slice with an index into it: the index is the column that a fault tells. It is `Copy`, which a type with a lifetime
+// and a model can't be; so views in specs/ say what it stands for.
 #[derive(Clone, Copy)]
 pub struct Words<'a> {
     line: &'a [u8],
