@@ -58,7 +58,7 @@ impl Shape {
     pub(crate) fn is_flagged(self, line: &Line, part: Stretch) -> bool
         ensures { result ≡ all_flagged self.settings.granule part.from part.size 0 line.now.flags }
     {
-        // This loop is a rule of the project; an iterator's `all` would say the same.
+        // A `for`, not `all`: that this loop decides whether a load is known is a rule of the project.
         for &flag in &line.flags[self.granules(part)] {
             if !flag {
                 return false;

@@ -3,7 +3,7 @@ ghost use Rattle.std.specs.List.{All, AllPairs};
 
 /// The order of use of a set's lines, which lie in four ways. The first `used` of the order are the ways in use, latest
 /// use first; the others are free.
-// Four ways always, of which the first `used` are in use: no `Vec`, since memory is fixed and no call can fail.
+// Always four ways, and no `Vec`: memory is fixed, and no call after making can fail.
 #[derive(Clone, Copy)]
 pub(crate) struct Recency {
     order: [u8; 4],

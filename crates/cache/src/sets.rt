@@ -12,6 +12,7 @@ use rules::cache::{BlockBytes, Line};
 use std::alloc::{AllocError, Global};
 
 /// A first-access cache. Each set has its order of use, and its lines lie in the table.
+// Why table and orders stand apart is said at `Table`.
 #[derive(Drop)]
 pub struct Cache {
     shape: Shape,
@@ -107,7 +108,8 @@ impl Cache {
     {
         let set = self.set_of(block);
         let order = self.orders[set];
-        // A `for`: the order of use stands behind functions, so there is no slice of it to search.
+        // A `for`: the order of use stands behind functions, so there is no slice of it to search. Tried as a chain over
+        // its places: the calls of the closures stayed unproved.
         for place in 0..order.used() {
             let slot = 4 * set + order.way(place);
             if self.table.line(slot).block == block {

@@ -95,7 +95,7 @@ impl Chunked {
         let mut rest = u64::from(number);
         let mut spelled = Spelled { word: 0, size: 0 }.then(rest, self.first);
         rest >>= self.first;
-        // A number, not a list, is taken apart here and put together below; so neither loop has an iterator.
+        // A `while`: a number, not a list, is taken apart.
         while rest > 0 {
             spelled = spelled.then(rest, self.later);
             rest >>= self.later;
@@ -130,6 +130,7 @@ impl CountCode for Chunked {
         let mut value: u64 = 0;
         let mut seen: u32 = 0;
         let mut width = self.first;
+        // A `while`: a number is put together, and any turn may end the reading.
         while seen < 32 {
             let word = reader.take(width + 1)?;
             let group = lowest(word, width);

@@ -4,7 +4,7 @@ ghost use Rattle.text.specs.Hex.{digit_of, number_in, digit_char, hex_digits, he
 use std::fmt;
 
 /// The value of a digit 0 to 9 or A to F.
-// Not `to_digit`, and below not `from_str_radix`: these take small letters too, and a sign.
+// Not `to_digit`, and below not `from_str_radix`: both take small letters too, and the second a sign.
 pub fn digit_value(c: u8) -> Option<u64>
     ensures is { result ≡ digit_of c }
     ensures below { IfSome result (λ d. d < 16) }
@@ -50,7 +50,7 @@ pub fn width(value: u64) -> u32
 }
 
 /// The `count` lowest digits of a value, highest first; a value has 16.
-// Not `{:X}`: it cuts no number to so many digits. With this, `Hex` and `HexBytes` are one call each.
+// Not `{:X}`: it cuts no number to so many digits. With this, `Hex` is one call, and `HexBytes` one for each byte.
 #[derive(Clone, Copy, Debug, PartialEq, Eq)]
 pub struct Digits {
     pub count: u32,
