@@ -1,4 +1,4 @@
-use Rattle.std.proofs.Common.{◌≡◌, ℕ, ◌+◌, ◌*◌, ◌/◌, ◌≤◌, List, [], ◌∷◌, ◌++◌, length, length-take-le, replicate, take, string_bytes, sym, ap, ◌∙◌, ap₂, arith, rules, append_assoc}
+use Rattle.std.proofs.Common.{◌≡◌, ℕ, ◌+◌, ◌/◌, ◌≤◌, List, [], ◌∷◌, ◌++◌, length, length-take-le, replicate, take, string_bytes, sym, ap, ◌∙◌, ap₂, arith, rules, append_assoc}
 use Rattle.rules.specs.Meaning.{Meaning}
 use Rattle.std.proofs.lemmas.List.{length-replicate}
 use Rattle.rules.proofs.Bits.{length-bits_in}
@@ -10,27 +10,30 @@ use Rattle.counts.specs.Report.{bytes_line, total_line}
 use Rattle.counts.proofs.output.output.Goals as goal
 use Rattle.counts.proofs.output.output.Goals.{in-Some+in_ok-writeln, in_default}
 
--- what is written is part of the counts, and ends within the buffer
-module _ (m : Meaning) (counts bytes : List ℕ) (s : Series) (is : s ≡ series_from m 0 counts 0 bytes) where
-  few : s.written ≤ length counts
-  few = omega (arith, ap (λ t. t.written) is, series_few m 0 counts 0 bytes)
+-- the bytes that the counts are written over
+abbrev zeros : List ℕ
+zeros = replicate 1024 0
 
-  inside : s.next ≤ 8 * length bytes
-  inside = omega (arith, ap (λ t. t.next) is, series_inside m 0 counts 0 bytes (omega arith), length-bits_in bytes)
+-- what is written is part of the counts, and the bytes that it fills are part of the buffer
+module _ (m : Meaning) (counts : List ℕ) (s : Series) (is : s ≡ series_from m 0 counts 0 zeros) where
+  few : s.written ≤ length counts
+  few = omega (arith, ap (λ t. t.written) is, series_few m 0 counts 0 zeros)
+
+  bytes_fit : (k size : ℕ) → k ≡ (s.next + 7) / 8 → size ≡ 1024 → k ≤ size
+  bytes_fit k size is_k is_size = omega (arith, ap (λ t. t.next) is, series_inside m 0 counts 0 zeros (omega arith), length-bits_in zeros, length-replicate {A = ℕ} 1024 0)
 
 pub slice_bounds-listed-end : goal.slice_bounds-listed-end
 slice_bounds-listed-end g c =
-    sym (length-take-le _ c.args.counts.now (few (g.C.CountCode.meaning c.args.code.now) c.args.counts.now (replicate 1024 0) c.write_series-series.result (search rules)))
+    sym (length-take-le _ c.args.counts.now (few (g.C.CountCode.meaning c.args.code.now) c.args.counts.now c.write_series-series.result (search rules)))
 
 pub slice_bounds-buffer-end : goal.slice_bounds-buffer-end
 slice_bounds-buffer-end g c =
-    let long : length c.write_series-series.new.buffer ≡ 1024 = search rules in
-    omega (arith, c.div_ceil.ensures, long, inside (g.C.CountCode.meaning c.args.code.now) c.args.counts.now (replicate 1024 0) c.write_series-series.result (search rules), length-replicate {A = ℕ} 1024 0)
+    bytes_fit (g.C.CountCode.meaning c.args.code.now) c.args.counts.now c.write_series-series.result (search rules) c.div_ceil.result (length c.write_series-series.new.buffer) (search (rules, arith)) (search rules)
 
 pub slice_bounds-bytes-end : goal.slice_bounds-bytes-end
 slice_bounds-bytes-end g c =
-    let long : length c.write_series-series.new.buffer ≡ 1024 = search rules in
-    sym (length-take-le _ c.write_series-series.new.buffer (omega (arith, c.div_ceil.ensures, long, inside (g.C.CountCode.meaning c.args.code.now) c.args.counts.now (replicate 1024 0) c.write_series-series.result (search rules), length-replicate {A = ℕ} 1024 0)))
+    sym (length-take-le _ c.write_series-series.new.buffer
+    (bytes_fit (g.C.CountCode.meaning c.args.code.now) c.args.counts.now c.write_series-series.result (search rules) c.div_ceil.result (length c.write_series-series.new.buffer) (search (rules, arith)) (search rules)))
 
 pub listed-requires : goal.listed-requires
 listed-requires g c =
