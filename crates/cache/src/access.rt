@@ -48,8 +48,10 @@ impl Access {
 }
 
 /// A number of bytes that an access or a granule may have.
+// By `is_power_of_two`, not `matches!`: what divides by a size is then known to divide by a power of two.
+#[tactic(auto, using(crate::proofs::Sizes::power_is_size))]
 pub(crate) fn is_size(n: u32) -> bool
     ensures { result ≡ is_size n }
 {
-    matches!(n, 1 | 2 | 4 | 8)
+    n <= 8 && n.is_power_of_two()
 }

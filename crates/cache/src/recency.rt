@@ -44,10 +44,14 @@ impl Recency {
         requires { place < length (recent self.old) }
         ensures { recent self.new ≡ to_front place (recent self.old) }
     {
-        // A field with facts about it is not lent, so a copy is turned.
-        let mut order = self.order;
-        order[..=place].rotate_right(1);
-        self.order = order;
+        // Spelled out, not by `rotate_right` on a part of it: that is a call for two or three bytes, in each load and store.
+        let [a, b, c, d] = self.order;
+        self.order = match place {
+            0 => [a, b, c, d],
+            1 => [b, a, c, d],
+            2 => [c, a, b, d],
+            _ => [d, a, b, c],
+        };
     }
 
     /// A way for a new line: a free one, or the last where all `ways` are in use.

@@ -18,7 +18,7 @@ pub record Stands (m : Meaning) (ns : List ℕ) (place end : ℕ) (bytes : List 
   pub end_is : end ≡ place + length (flat_map m.bits ns)
   pub bits_are : drop place (take end (bits_in bytes)) ≡ flat_map m.bits ns
 
-stands_more : (m : Meaning) (ns : List ℕ) (n place end next : ℕ) (bytes : List ℕ) → Stands m ns place end bytes → write_answer m n end bytes ≡ Ok next → Stands m (ns ++ n ∷ []) place next (bytes_written m n end bytes)
+pub stands_more : (m : Meaning) (ns : List ℕ) (n place end next : ℕ) (bytes : List ℕ) → Stands m ns place end bytes → write_answer m n end bytes ≡ Ok next → Stands m (ns ++ n ∷ []) place next (bytes_written m n end bytes)
 stands_more m ns n place end next bytes s e =
     let w = wrote m n end next bytes e in
     let more = sym (flat_map_more m.bits [] ns n) in

@@ -78,6 +78,10 @@ lines_are (c ∷ cs) h = go (eqb c 10) refl cs (λ l. lines_are cs l)
         cond-false (eqb c 10) _ _ e ∙ ap (onto c) (ih (omega arith))
         ∙ sym (ap (λ l. l ∷ lines_of (drop (length l + 1) (c ∷ d ∷ ds))) (cond-false (eqb c 10) _ _ e) ∙ ap (λ k. (c ∷ rest) ∷ lines_of (drop k (c ∷ d ∷ ds))) far)
 
+pub no_lines_lem : (bs : List ℕ) → length bs ≡ 0 → lines_of bs ≡ []
+no_lines_lem [] h = refl
+no_lines_lem (c ∷ cs) h = absurd (omega arith)
+
 pub no_lines_is : (bs : List ℕ) → no_lines (lines_of bs) ≡ eqb (length bs) 0
 no_lines_is [] = refl
 no_lines_is (c ∷ cs) = ap no_lines (lines_are (c ∷ cs) (omega arith)) ∙ sym (ne_eqb (length (c ∷ cs)) 0 (λ e. omega arith))

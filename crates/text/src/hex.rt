@@ -46,7 +46,7 @@ fn digit_char(digit: u64) -> char
 pub fn width(value: u64) -> u32
     ensures { result ≡ hex_width value }
 {
-    value.max(1).ilog(16) + 1
+    value.max(1).ilog2() / 4 + 1
 }
 
 /// The `count` lowest digits of a value, highest first; a value has 16.
@@ -59,6 +59,8 @@ pub struct Digits {
 
 impl fmt::Display for Digits {
     ghost output = { λ d. Some (hex_digits (min d.count 16) d.value) };
+
+    ghost styled_output = { λ d _. Some (hex_digits (min d.count 16) d.value) };
 
     fn fmt<W: fmt::Write>(&self, f: &mut fmt::Formatter<W>) -> fmt::Result {
         for place in (0..self.count.min(16)).rev() {
@@ -75,12 +77,15 @@ pub struct Hex(pub u64);
 impl fmt::Display for Hex {
     ghost output = { λ h. Some (hex_text h.0) };
 
+    ghost styled_output = { λ h _. Some (hex_text h.0) };
+
     fn fmt<W: fmt::Write>(&self, f: &mut fmt::Formatter<W>) -> fmt::Result {
         let value = self.0;
-        f.write(Digits {
+        Digits {
             count: width(value),
             value,
-        })
+        }
+        .fmt(f)
     }
 }
 
@@ -91,12 +96,15 @@ pub struct HexBytes<'a>(pub &'a [u8]);
 impl fmt::Display for HexBytes<'_> {
     ghost output = { λ b. Some (hex_bytes b.0.now) };
 
+    ghost styled_output = { λ b _. Some (hex_bytes b.0.now) };
+
     fn fmt<W: fmt::Write>(&self, f: &mut fmt::Formatter<W>) -> fmt::Result {
         for &byte in self.0 {
-            f.write(Digits {
+            Digits {
                 count: 2,
                 value: u64::from(byte),
-            })?;
+            }
+            .fmt(f)?;
         }
         Ok(())
     }

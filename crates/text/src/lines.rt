@@ -51,12 +51,12 @@ impl<'a> Lines<'a> {
 
 // The lines that are left, one after the other.
 impl<'a> Iterator for Lines<'a> {
-    ghost use Rattle.std.specs.Iterator.{YieldsFirstBy, item_count};
-    ghost use Rattle.text.specs.Views.{words_at, cursors_left};
+    ghost use Rattle.std.specs.Iterator.{item_count};
+    ghost use Rattle.text.specs.Views.{cursors_left, GivesLine};
 
     type Item = Words<'a>;
 
-    ghost next_gives = { YieldsFirstBy words_at cursors_left };
+    ghost next_gives = { GivesLine };
 
     ghost remaining = { item_count cursors_left };
 

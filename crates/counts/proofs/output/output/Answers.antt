@@ -1,6 +1,5 @@
-use Rattle.std.proofs.Common.{◌≡◌, ℕ, ◌+◌, ◌/◌, ◌≤◌, List, [], ◌∷◌, ◌++◌, length, length-take-le, replicate, take, string_bytes, sym, ap, ◌∙◌, ap₂, arith, rules, append_assoc}
+use Rattle.std.proofs.Common.{◌≡◌, ℕ, ◌+◌, ◌/◌, ◌≤◌, List, [], ◌∷◌, ◌++◌, length, length-take-le, take, string_bytes, sym, ap, ◌∙◌, ap₂, arith, rules, append_assoc}
 use Rattle.rules.specs.Meaning.{Meaning}
-use Rattle.std.proofs.lemmas.List.{length-replicate}
 use Rattle.rules.proofs.Bits.{length-bits_in}
 use Rattle.codes.specs.Series.{series_from}
 use Rattle.codes.proofs.Standing.{series_few, series_inside}
@@ -10,30 +9,26 @@ use Rattle.counts.specs.Report.{bytes_line, total_line}
 use Rattle.counts.proofs.output.output.Goals as goal
 use Rattle.counts.proofs.output.output.Goals.{in-Some+in_ok-writeln, in_default}
 
--- the bytes that the counts are written over
-abbrev zeros : List ℕ
-zeros = replicate 1024 0
-
--- what is written is part of the counts, and the bytes that it fills are part of the buffer
-module _ (m : Meaning) (counts : List ℕ) (s : Series) (is : s ≡ series_from m 0 counts 0 zeros) where
+-- what is written over some bytes is part of the counts, and the bytes that it fills are part of those
+module _ (m : Meaning) (counts : List ℕ) (s : Series) (over : List ℕ) (is : s ≡ series_from m 0 counts 0 over) where
   few : s.written ≤ length counts
-  few = omega (arith, ap (λ t. t.written) is, series_few m 0 counts 0 zeros)
+  few = omega (arith, ap (λ t. t.written) is, series_few m 0 counts 0 over)
 
-  bytes_fit : (k size : ℕ) → k ≡ (s.next + 7) / 8 → size ≡ 1024 → k ≤ size
-  bytes_fit k size is_k is_size = omega (arith, ap (λ t. t.next) is, series_inside m 0 counts 0 zeros (omega arith), length-bits_in zeros, length-replicate {A = ℕ} 1024 0)
+  bytes_fit : (k size : ℕ) → k ≡ (s.next + 7) / 8 → size ≡ length over → k ≤ size
+  bytes_fit k size is_k is_size = omega (arith, ap (λ t. t.next) is, series_inside m 0 counts 0 over (omega arith), length-bits_in over)
 
 pub slice_bounds-listed-end : goal.slice_bounds-listed-end
 slice_bounds-listed-end g c =
-    sym (length-take-le _ c.args.counts.now (few (g.C.CountCode.meaning c.args.code.now) c.args.counts.now c.write_series-series.result (search rules)))
+    sym (length-take-le _ c.args.counts.now (few (g.C.CountCode.meaning c.args.code.now) c.args.counts.now c.write_series-series.result _ c.write_series-series.ensures.answer))
 
 pub slice_bounds-buffer-end : goal.slice_bounds-buffer-end
 slice_bounds-buffer-end g c =
-    bytes_fit (g.C.CountCode.meaning c.args.code.now) c.args.counts.now c.write_series-series.result (search rules) c.div_ceil.result (length c.write_series-series.new.buffer) (search (rules, arith)) (search rules)
+    bytes_fit (g.C.CountCode.meaning c.args.code.now) c.args.counts.now c.write_series-series.result _ c.write_series-series.ensures.answer c.div_ceil.result (length c.write_series-series.new.buffer) (search (rules, arith)) (search rules)
 
 pub slice_bounds-bytes-end : goal.slice_bounds-bytes-end
 slice_bounds-bytes-end g c =
     sym (length-take-le _ c.write_series-series.new.buffer
-    (bytes_fit (g.C.CountCode.meaning c.args.code.now) c.args.counts.now c.write_series-series.result (search rules) c.div_ceil.result (length c.write_series-series.new.buffer) (search (rules, arith)) (search rules)))
+    (bytes_fit (g.C.CountCode.meaning c.args.code.now) c.args.counts.now c.write_series-series.result _ c.write_series-series.ensures.answer c.div_ceil.result (length c.write_series-series.new.buffer) (search (rules, arith)) (search rules)))
 
 pub listed-requires : goal.listed-requires
 listed-requires g c =

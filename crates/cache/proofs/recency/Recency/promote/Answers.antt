@@ -1,14 +1,19 @@
-use Rattle.std.proofs.Common.{◌+◌, ◌<◌}
-use Rattle.std.proofs.lemmas.List.Sorted.{All-permutation, IsPermutation-put_mid}
-use Rattle.cache.proofs.Order.{AllPairs-IsPermutation}
+use Rattle.std.proofs.Common.{◌≡◌, ℕ, ◌<◌, take, sym, ap, ◌∙◌, arith}
+use Rattle.cache.specs.Recency.{to_front}
+use Rattle.cache.proofs.Order.{spread, take-to_front, length-recent}
 use Rattle.cache.proofs.recency.Recency.promote.Goals as goal
+use Rattle.cache.proofs.recency.Recency.promote.Goals.{in-0, in-1, in-2, in_default}
 
-pub invariant_of-self-clause-ways : goal.invariant_of-self-clause-ways
-invariant_of-self-clause-ways c =
+pub returns : goal.returns
+returns c =
     let r = c.args.self.now in
-    All-permutation (λ way. way < 4) r.order _ (IsPermutation-put_mid 0 (c.args.place + 1) r.order c.rotate_right.new.self c.rotate_right.ensures.permutation) r.ways
-
-pub invariant_of-self-clause-apart : goal.invariant_of-self-clause-apart
-invariant_of-self-clause-apart c =
-    let r = c.args.self.now in
-    AllPairs-IsPermutation r.order _ (IsPermutation-put_mid 0 (c.args.place + 1) r.order c.rotate_right.new.self c.rotate_right.ensures.permutation) r.apart
+    let place = c.args.place in
+    let inside : place < r.used = omega (arith, c.requires, length-recent r) in
+    let moved : (p : ℕ) → place ≡ p → c.match-place.self ≡ to_front p r.order → take r.used c.match-place.self ≡ to_front place (take r.used r.order) =
+    λ p e h. ap (take r.used) (h ∙ ap (λ q. to_front q r.order) (sym e)) ∙ take-to_front r.used place r.order inside in
+    elim c.match-place.branch [
+      | in-0 w ↦ moved 0 (omega arith) (w.self-is ∙ sym (ap (to_front 0) (spread r.order r.four)))
+      | in-1 w ↦ moved 1 (omega arith) (w.self-is ∙ sym (ap (to_front 1) (spread r.order r.four)))
+      | in-2 w ↦ moved 2 (omega arith) (w.self-is ∙ sym (ap (to_front 2) (spread r.order r.four)))
+      | in_default w ↦ moved 3 (omega (arith, r.few)) (w.self-is ∙ sym (ap (to_front 3) (spread r.order r.four)))
+    ]
