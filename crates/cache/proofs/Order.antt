@@ -12,7 +12,7 @@ spread (a ∷ b ∷ c ∷ []) h = absurd (omega arith)
 spread (a ∷ b ∷ c ∷ d ∷ []) h = refl
 spread (a ∷ b ∷ c ∷ d ∷ e ∷ xs) h = absurd (omega arith)
 
-pub take_removed : {X : Type 0} (m p : ℕ) (xs : List X) → p ≤ m → take m (remove xs p) ≡ remove (take (suc m) xs) p
+take_removed : {X : Type 0} (m p : ℕ) (xs : List X) → p ≤ m → take m (remove xs p) ≡ remove (take (suc m) xs) p
 take_removed zero zero [] h = refl
 take_removed (suc m) zero [] h = refl
 take_removed m zero (x ∷ xs) h = refl

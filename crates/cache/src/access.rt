@@ -48,7 +48,7 @@ impl Access {
 }
 
 /// A number of bytes that an access or a granule may have.
-// By `is_power_of_two`, not `matches!`: what divides by a size is then known to divide by a power of two.
+// By `is_power_of_two`, not `matches!`: the test is one count of bits, and a division by a size can then be a mask.
 #[tactic(auto, using(crate::proofs::Sizes::power_is_size))]
 pub(crate) fn is_size(n: u32) -> bool
     ensures { result ≡ is_size n }

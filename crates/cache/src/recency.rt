@@ -44,7 +44,7 @@ impl Recency {
         requires { place < length (recent self.old) }
         ensures { recent self.new ≡ to_front place (recent self.old) }
     {
-        // Spelled out, not by `rotate_right` on a part of it: that is a call for two or three bytes, in each load and store.
+        // Spelled out, not by `rotate_right` on a part of it: that is a call, to move two or three bytes.
         let [a, b, c, d] = self.order;
         self.order = match place {
             0 => [a, b, c, d],

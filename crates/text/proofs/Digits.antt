@@ -1,5 +1,5 @@
 -- Hexadecimal digits, read and written.
-use Rattle.std.proofs.Common.{◌≡◌, ℕ, zero, suc, ◌+◌, ◌*◌, ◌/◌, ◌%◌, ◌^◌, ◌<◌, ◌≤◌, max, ltb, leb, List, [], ◌∷◌, ◌++◌, length, Some, None, sym, refl, ap, ◌∙◌, subst, ⊎_elim, append_assoc, mod-eq_of_lt, arith, pow_pos, pow_mono, pow-add}
+use Rattle.std.proofs.Common.{◌≡◌, ℕ, zero, suc, ◌+◌, ◌*◌, ◌/◌, ◌%◌, ◌^◌, ◌<◌, ◌≤◌, max, min, ltb, leb, List, [], ◌∷◌, ◌++◌, length, Some, None, sym, refl, ap, ◌∙◌, subst, ⊎_elim, append_assoc, mod-eq_of_lt, arith, pow_pos, pow_mono, pow-add}
 use native.Mathlib.Nat.{pow-succ'}
 use lib.Arith.{mod-mul}
 use Rattle.std.proofs.lemmas.Bool.{cond-true, cond-false, cond_both, and_from, cases_lt, le-leb, le-ltb, lt-ltb}
@@ -112,3 +112,7 @@ text_read most n h low =
     number_is most (hex_text n) (omega (arith, r.some)) (omega (arith, r.few))
     ∙ ap (at_most most) (digits_read k n 0 ∙ ap Some value)
     ∙ cond-true (leb n most) _ _ (le-leb n most low)
+
+-- a number's digits are its text
+pub digits_text : (k n : ℕ) → n < 2 ^ 64 → k ≡ hex_width n → hex_digits (min k 16) n ≡ hex_text n
+digits_text k n h is = let width : min k 16 ≡ hex_width n = omega (arith, is, width_few n h) in ap (λ j. hex_digits j n) width

@@ -79,6 +79,7 @@ impl fmt::Display for Hex {
 
     ghost styled_output = { λ h _. Some (hex_text h.0) };
 
+    #[tactic(auto, using(crate::proofs::Digits::digits_text))]
     fn fmt<W: fmt::Write>(&self, f: &mut fmt::Formatter<W>) -> fmt::Result {
         let value = self.0;
         Digits {
